@@ -1,0 +1,25 @@
+use fk_base::Path;
+
+/// How a path changes.
+#[derive(Clone, Copy, Debug, PartialEq, Eq)]
+pub enum Change {
+    Created,
+    Changed,
+    Deleted,
+    /// A child came or went.
+    Child,
+}
+
+/// What a watch waits for: a change of a node or its data, or a change among its children.
+#[derive(Clone, Copy, Debug, PartialEq, Eq)]
+pub enum Kind {
+    Data,
+    Child,
+}
+
+/// A path that an applied request changes.
+#[derive(Drop)]
+pub struct Touch {
+    pub path: Path,
+    pub change: Change,
+}

@@ -1,0 +1,19 @@
+//! The tree of ZooKeeper: small versioned nodes under paths, the requests that change it and what
+//! each of them does. The rules stand in `specs/`; the code of this crate meets them.
+#![tactic(auto)]
+
+mod applied;
+mod change;
+mod edit;
+mod lists;
+mod node;
+mod reply;
+mod request;
+
+pub use applied::{Applied, Made};
+pub use change::{Change, Kind, Touch};
+pub use edit::{Edit, What};
+pub use lists::{Edits, Mades, Parts, Replies, Touches};
+pub use node::{Node, Stat};
+pub use reply::{Answer, PartReply, Reply};
+pub use request::{Part, Query, Request};
