@@ -1,0 +1,9 @@
+pub mod Apply
+pub mod Check
+pub mod Edit
+pub mod Fill
+pub mod Locks
+pub mod Sorted
+pub mod Touch
+pub mod Tree
+pub mod View

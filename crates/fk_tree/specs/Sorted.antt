@@ -1,0 +1,51 @@
+-- Lists without repeats in an order of their items: names by their bytes, paths by their names.
+use Rattle.std.specs.Prelude.{Bool, true, false, if◌then◌else◌, ◌&&◌, ◌||◌, List, [], ◌∷◌}
+use Rattle.std.specs.declared.cmp.Ordering.{Ordering}
+use Rattle.std.specs.Ordering.{is_eq, is_lt, match_ordering}
+use Rattle.fk_base.specs.Path.{Name, PathNames, name_cmp, path_cmp}
+
+-- whether the item is in the list
+abbrev pub has : {K : Type 0} → (K → K → Ordering) → K → List K → Bool
+has R x [] = false
+has R x (y ∷ ys) = is_eq (R x y) || has R x ys
+
+-- the list with the item at its place; one that is there already isn't added
+abbrev pub add : {K : Type 0} → (K → K → Ordering) → K → List K → List K
+add R x [] = x ∷ []
+add R x (y ∷ ys) = match_ordering (R x y) (x ∷ y ∷ ys) (y ∷ ys) (y ∷ add R x ys)
+
+-- the list without the item
+abbrev pub drop : {K : Type 0} → (K → K → Ordering) → K → List K → List K
+drop R x [] = []
+drop R x (y ∷ ys) = if is_eq (R x y) then drop R x ys else y ∷ drop R x ys
+
+-- the item is below each of the list
+abbrev pub is_below : {K : Type 0} → (K → K → Ordering) → K → List K → Bool
+is_below R x [] = true
+is_below R x (y ∷ ys) = is_lt (R x y) && is_below R x ys
+
+-- each item is below those after it
+abbrev pub rises : {K : Type 0} → (K → K → Ordering) → List K → Bool
+rises R [] = true
+rises R (x ∷ xs) = is_below R x xs && rises R xs
+
+-- the items in their order, each once
+abbrev pub sorted : {K : Type 0} → (K → K → Ordering) → List K → List K
+sorted R [] = []
+sorted R (x ∷ xs) = add R x (sorted R xs)
+
+abbrev pub has_name : Name → List Name → Bool
+has_name = has name_cmp
+
+abbrev pub add_name : Name → List Name → List Name
+add_name = add name_cmp
+
+abbrev pub drop_name : Name → List Name → List Name
+drop_name = drop name_cmp
+
+abbrev pub has_path : PathNames → List PathNames → Bool
+has_path = has path_cmp
+
+-- the paths in path order, each once
+abbrev pub in_path_order : List PathNames → List PathNames
+in_path_order = sorted path_cmp
