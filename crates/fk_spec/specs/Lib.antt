@@ -1,0 +1,15 @@
+pub mod Plan
+pub mod Shown
+pub mod Start
+pub mod Locks
+pub mod Settling
+pub mod Stored
+pub mod Lanes
+pub mod Follower
+pub mod Leader
+pub mod Function
+pub mod Client
+pub mod Next
+pub mod Schedule
+pub mod Published
+pub mod Promises
