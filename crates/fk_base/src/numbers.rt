@@ -27,6 +27,14 @@ impl Numbers {
         }
     }
 
+    pub fn from_slice(alloc: Global, items: &[u64]) -> Result<Self, NoMemory>
+        ensures { IfOk result (λ n. n ≡ items.now) }
+    {
+        Ok(Numbers {
+            items: Vec::from_slice(alloc, items)?,
+        })
+    }
+
     pub fn push(&mut self, item: u64) -> Result<(), NoMemory>
         ensures ok { OnOk result (self.new ≡ self.old ++ item ∷ []) }
         ensures err { OnErr result (self.new ≡ self.old) }
