@@ -1,4 +1,4 @@
-ghost use Rattle.std.specs.Prelude.{◌≡◌, [], ◌∷◌, ◌++◌, IfOk, OnOk, OnErr};
+ghost use Rattle.std.specs.Prelude.{◌≡◌, ◌↔◌, [], ◌∷◌, ◌++◌, length, IsTrue, IfOk, OnOk, OnErr};
 
 use crate::memory::NoMemory;
 use std::alloc::Global;
@@ -27,6 +27,14 @@ impl Numbers {
         }
     }
 
+    pub fn from_slice(alloc: Global, items: &[u64]) -> Result<Self, NoMemory>
+        ensures { IfOk result (λ n. n ≡ items.now) }
+    {
+        Ok(Numbers {
+            items: Vec::from_slice(alloc, items)?,
+        })
+    }
+
     pub fn push(&mut self, item: u64) -> Result<(), NoMemory>
         ensures ok { OnOk result (self.new ≡ self.old ++ item ∷ []) }
         ensures err { OnErr result (self.new ≡ self.old) }
@@ -39,6 +47,18 @@ impl Numbers {
         ensures { result.now ≡ self.now }
     {
         self.items.as_slice()
+    }
+
+    pub fn len(&self) -> usize
+        ensures { result ≡ length self.now }
+    {
+        self.items.len()
+    }
+
+    pub fn is_empty(&self) -> bool
+        ensures { IsTrue result ↔ (self.now ≡ []) }
+    {
+        self.items.is_empty()
     }
 
     pub fn copy(&self) -> Result<Self, NoMemory>
