@@ -1,0 +1,2 @@
+mod PathOrder
+mod PathTexts

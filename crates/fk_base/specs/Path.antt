@@ -1,6 +1,7 @@
 -- Names and paths. A path is the list of its names, the root the empty list.
-use Rattle.std.specs.Prelude.{ℕ, ◌==◌, nat_lt, nat_le, Bool, true, false, if◌then◌else◌, ◌&&◌, ◌||◌, not, List, [], ◌∷◌, ◌++◌, Option, Some, None}
+use Rattle.std.specs.Prelude.{ℕ, ◌==◌, nat_le, Bool, true, false, if◌then◌else◌, ◌&&◌, ◌||◌, not, List, [], ◌∷◌, Option, Some, None}
 use Rattle.std.specs.declared.cmp.Ordering.{Ordering}
+use Rattle.std.specs.List.{flat_map, list_all, slice_split}
 use Rattle.std.specs.Ordering.{nat_cmp, is_eq}
 use Rattle.std.specs.Cmp.Lexicographic.{slice_cmp}
 
@@ -20,12 +21,15 @@ name_cmp = slice_cmp nat_cmp
 abbrev pub path_cmp : PathNames → PathNames → Ordering
 path_cmp = slice_cmp name_cmp
 
+-- no byte tells them apart
 abbrev pub same_name : Name → Name → Bool
 same_name a b = is_eq (name_cmp a b)
 
+-- no name tells them apart
 abbrev pub same_path : PathNames → PathNames → Bool
 same_path p q = is_eq (path_cmp p q)
 
+-- the root has no names
 abbrev pub is_root : PathNames → Bool
 is_root [] = true
 is_root (n ∷ p) = false
@@ -67,19 +71,17 @@ is_dots (a ∷ b ∷ c ∷ n) = false
 abbrev pub is_name : Name → Bool
 is_name n = not (is_dots n) && not (has_barred n)
 
+-- each of these is a name
 abbrev pub are_names : List Name → Bool
-are_names [] = true
-are_names (n ∷ ns) = is_name n && are_names ns
+are_names = list_all is_name
 
--- a byte before the first of the pieces
-abbrev pub with_byte : ℕ → List Name → List Name
-with_byte c [] = (c ∷ []) ∷ []
-with_byte c (n ∷ ns) = (c ∷ n) ∷ ns
+-- the byte that stands before each name
+abbrev pub is_slash : ℕ → Bool
+is_slash c = c == 47
 
 -- the pieces between slashes
 abbrev pub pieces : List ℕ → List Name
-pieces [] = [] ∷ []
-pieces (c ∷ cs) = if c == 47 then [] ∷ pieces cs else with_byte c (pieces cs)
+pieces = slice_split is_slash
 
 -- these names where each is one
 abbrev pub if_names : List Name → Option PathNames
@@ -93,12 +95,11 @@ path_behind (c ∷ cs) = if_names (pieces (c ∷ cs))
 -- The path that a text means: `/`, or one or more names, each after a slash.
 abbrev pub path_of : List ℕ → Option PathNames
 path_of [] = None
-path_of (c ∷ cs) = if c == 47 then path_behind cs else None
+path_of (c ∷ cs) = if is_slash c then path_behind cs else None
 
 -- each name after a slash
 abbrev pub names_text : List Name → List ℕ
-names_text [] = []
-names_text (n ∷ ns) = (47 ∷ n) ++ names_text ns
+names_text = flat_map (λ n. 47 ∷ n)
 
 -- the text of a path
 abbrev pub path_text : PathNames → List ℕ

@@ -9,6 +9,8 @@ mod memory;
 mod names;
 mod numbers;
 mod path;
+mod path_laws;
+mod path_rules;
 mod paths;
 mod text;
 
@@ -19,5 +21,7 @@ pub use memory::NoMemory;
 pub use names::Names;
 pub use numbers::Numbers;
 pub use path::{Path, PathFault};
+pub use path_laws::{reads_its_text, text_reads_back};
+pub use path_rules::is_name;
 pub use paths::Paths;
 pub use text::Text;

@@ -1,4 +1,4 @@
-ghost use Rattle.std.specs.Prelude.{◌≡◌, [], ◌∷◌, ◌++◌, IfOk, OnOk, OnErr};
+ghost use Rattle.std.specs.Prelude.{◌≡◌, ◌↔◌, [], ◌∷◌, ◌++◌, length, IsTrue, IfOk, OnOk, OnErr};
 
 use crate::memory::NoMemory;
 use crate::text::Text;
@@ -49,6 +49,16 @@ impl Names {
         }
     }
 
+    pub fn from_slice(alloc: Global, items: &[Text]) -> Result<Self, NoMemory>
+        ensures { IfOk result (λ n. n ≡ items.now) }
+    {
+        let mut copies = Vec::new(alloc);
+        'copying: for item in items {
+            copies.push(item.copy()?)?;
+        }
+        Ok(Names { items: copies })
+    }
+
     pub fn push(&mut self, item: Text) -> Result<(), NoMemory>
         ensures ok { OnOk result (self.new ≡ self.old ++ item ∷ []) }
         ensures err { OnErr result (self.new ≡ self.old) }
@@ -63,13 +73,34 @@ impl Names {
         self.items.as_slice()
     }
 
+    pub fn len(&self) -> usize
+        ensures { result ≡ length self.now }
+    {
+        self.items.len()
+    }
+
+    pub fn is_empty(&self) -> bool
+        ensures { IsTrue result ↔ (self.now ≡ []) }
+    {
+        self.items.is_empty()
+    }
+
     pub fn copy(&self) -> Result<Self, NoMemory>
         ensures { IfOk result (λ n. n ≡ self.now) }
     {
-        let mut items = Vec::new(*self.items.allocator());
-        for item in &self.items {
-            items.push(item.copy()?)?;
-        }
-        Ok(Names { items })
+        Names::from_slice(self.allocator(), self.as_slice())
+    }
+
+    /// These names and one more.
+    pub(crate) fn with(&self, name: &str) -> Result<Self, NoMemory>
+        ensures { IfOk result (λ n. n ≡ self.now ++ name.now ∷ []) }
+    {
+        let mut names = self.copy()?;
+        names.push(Text::from_str(self.allocator(), name)?)?;
+        Ok(names)
+    }
+
+    pub(crate) fn allocator(&self) -> Global {
+        *self.items.allocator()
     }
 }
