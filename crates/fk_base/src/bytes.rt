@@ -18,6 +18,13 @@ impl Model for Bytes {
     ghost view = { λ b. b.items.items };
 }
 
+/// The allocator that the bytes keep.
+impl Bytes {
+    pub fn allocator(&self) -> Global {
+        *self.items.allocator()
+    }
+}
+
 impl Bytes {
     pub fn new(alloc: Global) -> Self
         ensures { result ≡ [] }

@@ -19,6 +19,27 @@ impl Model for Names {
     ghost view = { λ n. n.items.items };
 }
 
+/// One name more or less.
+impl Names {
+    ghost use Rattle.std.specs.Prelude.{◌<◌, ◌≤◌, length, insert, remove};
+
+    pub fn insert(&mut self, place: usize, name: Text) -> Result<(), NoMemory>
+        requires { place ≤ length self.old }
+        ensures ok { OnOk result (self.new ≡ insert self.old place name) }
+        ensures err { OnErr result (self.new ≡ self.old) }
+    {
+        self.items.insert(place, name)?;
+        Ok(())
+    }
+
+    pub fn remove(&mut self, place: usize) -> Text
+        requires { place < length self.old }
+        ensures { self.new ≡ remove self.old place }
+    {
+        self.items.remove(place)
+    }
+}
+
 impl Names {
     pub fn new(alloc: Global) -> Self
         ensures { result ≡ [] }

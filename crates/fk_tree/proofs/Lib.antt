@@ -1,1 +1,7 @@
-mod Rows
+mod Deletes
+mod Order
+mod Parents
+mod Rising
+mod Samples
+mod Sorting
+mod Views

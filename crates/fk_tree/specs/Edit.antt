@@ -2,7 +2,7 @@
 use Rattle.std.specs.Prelude.{ℕ, ◌==◌, Bool, true, false, if◌then◌else◌, ◌||◌, List, [], ◌∷◌, ◌++◌, Option, Some, None}
 use Rattle.fk_base.specs.Path.{PathNames, same_path, parent, last_name, is_root}
 use Rattle.fk_tree.specs.Sorted.{has_name, add_name, drop_name}
-use Rattle.fk_tree.specs.Tree.{with_names, fresh, up}
+use Rattle.fk_tree.specs.Tree.{with_names, fresh, map_some, up}
 use Rattle.fk_tree.specs.View.{View}
 use Rattle.fk_tree.specs.declared.node.Node.{Node}
 use Rattle.fk_tree.specs.declared.applied.Applied.{Applied}
@@ -31,13 +31,10 @@ without_child x tx n = if has_name x n.names then record n { cversion = up n.cve
 -- node changes nothing.
 abbrev pub edit : ℕ → ℕ → What → Option Node → Option Node
 edit tx moment (what.Make bytes owner) o = Some (with_names [] (fresh bytes owner tx moment))
+edit tx moment (what.Replace bytes) o = map_some (with_bytes bytes tx moment) o
 edit tx moment what.Remove o = None
-edit tx moment (what.Replace bytes) None = None
-edit tx moment (what.Replace bytes) (Some n) = Some (with_bytes bytes tx moment n)
-edit tx moment (what.AddName x) None = None
-edit tx moment (what.AddName x) (Some n) = Some (with_child x tx n)
-edit tx moment (what.DropName x) None = None
-edit tx moment (what.DropName x) (Some n) = Some (without_child x tx n)
+edit tx moment (what.AddName x) o = map_some (with_child x tx) o
+edit tx moment (what.DropName x) o = map_some (without_child x tx) o
 
 -- an edit of the parent of p; the root has none
 abbrev pub of_parent : PathNames → What → List Edit

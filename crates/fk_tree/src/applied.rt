@@ -1,6 +1,8 @@
+ghost use Rattle.std.specs.Prelude.{◌≡◌, IfOk};
+
 use crate::lists::Mades;
 use crate::request::Request;
-use fk_base::{Path, Paths};
+use fk_base::{NoMemory, Path, Paths};
 
 /// What a part of a multi came to: the final name of a create, else the root, and the new version
 /// of a set, else 0.
@@ -28,4 +30,33 @@ pub struct Applied {
     pub gone: Paths,
     /// One entry for each part of a multi, else none.
     pub made: Mades,
+}
+
+impl Made {
+    pub fn copy(&self) -> Result<Made, NoMemory>
+        ensures { IfOk result (λ m. m ≡ self.now) }
+    {
+        Ok(Made {
+            name: self.name.copy()?,
+            version: self.version,
+        })
+    }
+}
+
+impl Applied {
+    pub fn copy(&self) -> Result<Applied, NoMemory>
+        ensures { IfOk result (λ a. a ≡ self.now) }
+    {
+        Ok(Applied {
+            tx: self.tx,
+            moment: self.moment,
+            session: self.session,
+            k: self.k,
+            request: self.request.copy()?,
+            name: self.name.copy()?,
+            version: self.version,
+            gone: self.gone.copy()?,
+            made: self.made.copy()?,
+        })
+    }
 }

@@ -1,4 +1,6 @@
-use fk_base::Path;
+ghost use Rattle.std.specs.Prelude.{◌≡◌, IfOk};
+
+use fk_base::{NoMemory, Path};
 
 /// How a path changes.
 #[derive(Clone, Copy, Debug, PartialEq, Eq)]
@@ -22,4 +24,15 @@ pub enum Kind {
 pub struct Touch {
     pub path: Path,
     pub change: Change,
+}
+
+impl Touch {
+    pub fn copy(&self) -> Result<Touch, NoMemory>
+        ensures { IfOk result (λ t. t ≡ self.now) }
+    {
+        Ok(Touch {
+            path: self.path.copy()?,
+            change: self.change,
+        })
+    }
 }

@@ -4,9 +4,11 @@
 
 mod applied;
 mod change;
+mod child_names;
 mod edit;
 mod lists;
 mod node;
+mod node_edit;
 mod reply;
 mod request;
 
@@ -15,5 +17,6 @@ pub use change::{Change, Kind, Touch};
 pub use edit::{Edit, What};
 pub use lists::{Edits, Mades, Parts, Replies, Touches};
 pub use node::{Node, Stat};
+pub use node_edit::edit_node;
 pub use reply::{Answer, PartReply, Reply};
 pub use request::{Part, Query, Request};

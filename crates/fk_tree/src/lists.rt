@@ -1,6 +1,6 @@
 //! Lists of this crate's types, which contracts see as lists.
 
-ghost use Rattle.std.specs.Prelude.{◌≡◌, [], ◌∷◌, ◌++◌, OnOk, OnErr};
+ghost use Rattle.std.specs.Prelude.{◌≡◌, [], ◌∷◌, ◌++◌, IfOk, OnOk, OnErr};
 
 use crate::applied::Made;
 use crate::change::Touch;
@@ -11,7 +11,7 @@ use fk_base::NoMemory;
 use std::alloc::Global;
 use std::marker::Model;
 
-/// A list of Parts: the parts of a multi, in order.
+/// The parts of a multi, in order.
 #[derive(Drop)]
 pub struct Parts {
     items: Vec<Part>,
@@ -48,9 +48,19 @@ impl Parts {
     {
         self.items.as_slice()
     }
+
+    pub fn copy(&self) -> Result<Self, NoMemory>
+        ensures { IfOk result (λ l. l ≡ self.now) }
+    {
+        let mut items = Vec::new(*self.items.allocator());
+        'copying: for item in &self.items {
+            items.push(item.copy()?)?;
+        }
+        Ok(Parts { items })
+    }
 }
 
-/// A list of Mades: what the parts of a multi came to, in order.
+/// What the parts of a multi came to, in order.
 #[derive(Drop)]
 pub struct Mades {
     items: Vec<Made>,
@@ -87,9 +97,19 @@ impl Mades {
     {
         self.items.as_slice()
     }
+
+    pub fn copy(&self) -> Result<Self, NoMemory>
+        ensures { IfOk result (λ l. l ≡ self.now) }
+    {
+        let mut items = Vec::new(*self.items.allocator());
+        'copying: for item in &self.items {
+            items.push(item.copy()?)?;
+        }
+        Ok(Mades { items })
+    }
 }
 
-/// A list of PartReplys: what the parts of a multi are answered, in order.
+/// What the parts of a multi are answered, in order.
 #[derive(Drop)]
 pub struct Replies {
     items: Vec<PartReply>,
@@ -126,9 +146,19 @@ impl Replies {
     {
         self.items.as_slice()
     }
+
+    pub fn copy(&self) -> Result<Self, NoMemory>
+        ensures { IfOk result (λ l. l ≡ self.now) }
+    {
+        let mut items = Vec::new(*self.items.allocator());
+        'copying: for item in &self.items {
+            items.push(item.copy()?)?;
+        }
+        Ok(Replies { items })
+    }
 }
 
-/// A list of Touchs: the changes of an applied request, in order.
+/// The changes of an applied request, in order.
 #[derive(Drop)]
 pub struct Touches {
     items: Vec<Touch>,
@@ -165,9 +195,19 @@ impl Touches {
     {
         self.items.as_slice()
     }
+
+    pub fn copy(&self) -> Result<Self, NoMemory>
+        ensures { IfOk result (λ l. l ≡ self.now) }
+    {
+        let mut items = Vec::new(*self.items.allocator());
+        'copying: for item in &self.items {
+            items.push(item.copy()?)?;
+        }
+        Ok(Touches { items })
+    }
 }
 
-/// A list of Edits: edits in the order in which they are made.
+/// Edits in the order in which they are made.
 #[derive(Drop)]
 pub struct Edits {
     items: Vec<Edit>,
@@ -203,5 +243,15 @@ impl Edits {
         ensures { result.now ≡ self.now }
     {
         self.items.as_slice()
+    }
+
+    pub fn copy(&self) -> Result<Self, NoMemory>
+        ensures { IfOk result (λ l. l ≡ self.now) }
+    {
+        let mut items = Vec::new(*self.items.allocator());
+        'copying: for item in &self.items {
+            items.push(item.copy()?)?;
+        }
+        Ok(Edits { items })
     }
 }

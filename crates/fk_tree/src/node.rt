@@ -1,4 +1,7 @@
-use fk_base::{Bytes, Names};
+ghost use Rattle.std.specs.Prelude.{◌≡◌, min, IfOk};
+ghost use Rattle.fk_tree.specs.Tree.{stat_of, top};
+
+use fk_base::{Bytes, Names, NoMemory};
 
 /// What is known of a node without its data, as ZooKeeper's `Stat`.
 #[derive(Clone, Copy, Debug, PartialEq, Eq)]
@@ -39,4 +42,49 @@ pub struct Node {
     pub owner: u32,
     /// The names of its children, sorted by their bytes.
     pub names: Names,
+}
+
+impl Node {
+    pub fn stat(&self) -> Stat
+        ensures { result ≡ stat_of self.now }
+    {
+        Stat {
+            czxid: self.czxid,
+            mzxid: self.mzxid,
+            pzxid: self.pzxid,
+            ctime: self.ctime,
+            mtime: self.mtime,
+            version: self.version,
+            cversion: self.cversion,
+            aversion: 0,
+            owner: self.owner,
+            length: shown(self.bytes.as_slice().len()),
+            children: shown(self.names.as_slice().len()),
+        }
+    }
+
+    pub fn copy(&self) -> Result<Node, NoMemory>
+        ensures { IfOk result (λ n. n ≡ self.now) }
+    {
+        Ok(Node {
+            bytes: self.bytes.copy()?,
+            czxid: self.czxid,
+            mzxid: self.mzxid,
+            pzxid: self.pzxid,
+            ctime: self.ctime,
+            mtime: self.mtime,
+            version: self.version,
+            cversion: self.cversion,
+            made: self.made,
+            owner: self.owner,
+            names: self.names.copy()?,
+        })
+    }
+}
+
+// a length as a stat shows it
+fn shown(count: usize) -> u32
+    ensures { result ≡ min count top }
+{
+    u32::try_from(count).unwrap_or(u32::MAX)
 }

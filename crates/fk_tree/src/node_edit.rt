@@ -1,0 +1,117 @@
+//! One edit of one node.
+
+ghost use Rattle.std.specs.Prelude.{◌≡◌, [], IfOk, OnOk, OnErr};
+ghost use Rattle.fk_tree.specs.Edit.{edit, with_bytes, with_child, without_child};
+ghost use Rattle.fk_tree.specs.Sorted.{has_name};
+ghost use Rattle.fk_tree.specs.Tree.{fresh, map_some, up, with_names};
+
+use crate::child_names::{add_name, drop_name, place_of};
+use crate::edit::{Edit, What};
+use crate::node::Node;
+use fk_base::{Bytes, Names, NoMemory, Text};
+
+/// Makes one edit of one node. `Make` puts its node in place of what is there; any other edit of a
+/// missing node changes nothing.
+pub fn edit_node(
+    node: &mut Option<Node>,
+    change: &Edit,
+    tx: u64,
+    moment: u64,
+) -> Result<(), NoMemory>
+    ensures ok { OnOk result (node.new ≡ edit tx moment change.now.what node.old) }
+    ensures err { OnErr result (node.new ≡ node.old) }
+{
+    match &change.what {
+        What::Make { bytes, owner } => {
+            *node = Some(fresh_node(bytes, *owner, tx, moment)?);
+            Ok(())
+        }
+        What::Replace(bytes) => replace(node, bytes, tx, moment),
+        What::Remove => {
+            *node = None;
+            Ok(())
+        }
+        What::AddName(name) => add_child(node, name, tx),
+        What::DropName(name) => {
+            drop_child(node, name, tx);
+            Ok(())
+        }
+    }
+}
+
+fn fresh_node(bytes: &Bytes, owner: u32, tx: u64, moment: u64) -> Result<Node, NoMemory>
+    ensures { IfOk result (λ n. n ≡ with_names [] (fresh bytes.now owner tx moment)) }
+{
+    Ok(Node {
+        bytes: bytes.copy()?,
+        czxid: tx,
+        mzxid: tx,
+        pzxid: tx,
+        ctime: moment,
+        mtime: moment,
+        version: 0,
+        cversion: 0,
+        made: 0,
+        owner,
+        names: Names::new(bytes.allocator()),
+    })
+}
+
+fn replace(node: &mut Option<Node>, bytes: &Bytes, tx: u64, moment: u64) -> Result<(), NoMemory>
+    ensures ok { OnOk result (node.new ≡ map_some (with_bytes bytes.now tx moment) node.old) }
+    ensures err { OnErr result (node.new ≡ node.old) }
+{
+    let Some(node) = node else {
+        return Ok(());
+    };
+    node.bytes = bytes.copy()?;
+    node.version = up(node.version);
+    node.mzxid = tx;
+    node.mtime = moment;
+    Ok(())
+}
+
+fn add_child(node: &mut Option<Node>, name: &Text, tx: u64) -> Result<(), NoMemory>
+    ensures ok { OnOk result (node.new ≡ map_some (with_child name.now tx) node.old) }
+    ensures err { OnErr result (node.new ≡ node.old) }
+{
+    let Some(node) = node else {
+        return Ok(());
+    };
+    if is_child(node, name) {
+        return Ok(());
+    }
+    add_name(&mut node.names, name)?;
+    node.cversion = up(node.cversion);
+    node.made = up(node.made);
+    node.pzxid = tx;
+    Ok(())
+}
+
+fn drop_child(node: &mut Option<Node>, name: &Text, tx: u64)
+    ensures { node.new ≡ map_some (without_child name.now tx) node.old }
+{
+    let Some(node) = node else {
+        return;
+    };
+    if !is_child(node, name) {
+        return;
+    }
+    drop_name(&mut node.names, name);
+    node.cversion = up(node.cversion);
+    node.pzxid = tx;
+}
+
+#[tactic(auto, using(crate::proofs::Sorting::found_where_there))]
+fn is_child(node: &Node, name: &Text) -> bool
+    ensures { result ≡ has_name name.now node.now.names }
+{
+    place_of(node.names.as_slice(), name).is_some()
+}
+
+// one more, up to the greatest number of 32 bits
+fn up(count: u32) -> u32
+    ensures { result ≡ up count }
+{
+    count.saturating_add(1)
+}
