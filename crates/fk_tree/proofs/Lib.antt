@@ -1,4 +1,5 @@
 mod Deletes
+mod Keeping
 mod Order
 mod Parents
 mod Rising

@@ -5,9 +5,10 @@ use Rattle.std.specs.FinMap.{get, insert}
 use Rattle.std.proofs.lemmas.Bool.{false≢true}
 use Rattle.fk_base.specs.Path.{Name, PathNames, same_name, same_path, parent, last_name, is_root}
 use Rattle.fk_tree.specs.Tree.{Bare, Nodes, fresh}
+use Rattle.fk_tree.specs.Rows.{HasParents}
 use Rattle.fk_tree.specs.Apply.{grown, replaced, at_path, create_node, set_node, delete_node}
 use Rattle.fk_tree.proofs.Order.{by_test, and_left, same_path_is, same_child, child_parts}
-use Rattle.fk_tree.proofs.Views.{HasParents, with_node, some_at_path, some_create}
+use Rattle.fk_tree.proofs.Views.{with_node, some_at_path, some_create}
 use Rattle.fk_tree.proofs.Deletes.{some_delete}
 
 pub set_keeps : (t : Nodes) (p : PathNames) (bytes : List ℕ) (tx moment : ℕ) → HasParents t → HasParents (set_node p bytes tx moment t)

@@ -10,6 +10,7 @@ use Rattle.fk_tree.specs.declared.edit.What.TheVariants as what
 use Rattle.fk_tree.specs.Sorted.{has_name, add_name, is_below, rises}
 use Rattle.fk_tree.specs.Tree.{Bare, Nodes, name_under, with_first, names_under, children, with_names, map_some, node_view, fresh}
 use Rattle.fk_tree.specs.Edit.{edit, edited, create_edits, set_edits}
+use Rattle.fk_tree.specs.Rows.{HasParents}
 use Rattle.fk_tree.specs.Apply.{grown, replaced, put_some, at_path, create_node, set_node}
 use Rattle.fk_tree.proofs.Order.{by_test, tested, tested_left, tested_right, name_total, name_exact, path_total, same_path_is, names_it, child_is, child_order, name_under_is, same_child, child_apart, child_parts}
 use Rattle.fk_tree.proofs.Rising.{same_rising, has_with, rises_with}
@@ -85,10 +86,6 @@ set_view t p q bytes tx moment = rw (children_at_path p (replaced bytes tx momen
     step false ns o = refl
 
 -- CREATE
--- each node but the root has its parent
-abbrev pub HasParents : Nodes → Type 0
-HasParents t = (p : PathNames) (n : Name) → is_some (get t (p ++ n ∷ [])) ≡ true → is_some (get t p) ≡ true
-
 -- a missing path has no child
 pub no_child : (t : Nodes) → HasParents t → (p : PathNames) (n : Name) → is_some (get t p) ≡ false → is_some (get t (p ++ n ∷ [])) ≡ false
 no_child t h p n e = by_test (is_some (get t (p ++ n ∷ []))) (λ b. b ≡ false) (λ s. sym (h p n s) ∙ e) (λ _. refl)

@@ -3,6 +3,7 @@ pub mod Check
 pub mod Edit
 pub mod Fill
 pub mod Locks
+pub mod Rows
 pub mod Sorted
 pub mod Touch
 pub mod Tree

@@ -11,6 +11,7 @@ mod node;
 mod node_edit;
 mod reply;
 mod request;
+mod rows;
 
 pub use applied::{Applied, Made};
 pub use change::{Change, Kind, Touch};
