@@ -1,2 +1,4 @@
 pub mod Course
 pub mod Lawfulness
+pub mod Played
+pub mod Rows

@@ -1,2 +1,10 @@
 //! The top call of the program that plays a deployment file and prints its history.
 #![tactic(auto)]
+
+mod engine;
+mod follower;
+mod leader;
+mod message;
+mod row;
+mod running;
+mod table;

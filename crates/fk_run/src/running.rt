@@ -1,0 +1,38 @@
+use crate::message::Views;
+use fk_base::Paths;
+
+/// The operation before which a function stands. The first five are a follower's.
+#[derive(Clone, Copy, Debug, PartialEq, Eq)]
+pub(crate) enum Stage {
+    Session,
+    Lock,
+    Push,
+    Commit,
+    Ack,
+    Finish,
+    Pending,
+    Sweep,
+    Put,
+    Publish,
+    Reply,
+    Done,
+    Remove,
+}
+
+/// The function that runs: its number, the message that it works on, and where it stands.
+#[derive(Drop)]
+pub(crate) struct Running {
+    pub number: u64,
+    /// The message's number in its lane.
+    pub message: u64,
+    pub stage: Stage,
+    /// The push that it made or works on.
+    pub tx: u64,
+    /// The push's moment.
+    pub moment: u64,
+    /// The paths that it locks, or that it puts.
+    pub paths: Paths,
+    /// How many of them it put.
+    pub put: usize,
+    pub views: Views,
+}
