@@ -232,6 +232,10 @@ abbrev pub settled_by : Done → List Waiting → List Waiting
 settled_by d [] = []
 settled_by d (w ∷ ws) = if w.k == d.k then record w { result = Some d } ∷ ws else w ∷ settled_by d ws
 
+abbrev pub waiting_place : ℕ → List Waiting → ℕ
+waiting_place k [] = 0
+waiting_place k (w ∷ ws) = if w.k == k then 0 else waiting_place k ws + 1
+
 abbrev pub take_step : Done → List Done → State → State
 take_step d ds s = enter (event.Client 1) (op.TakeDone 1 d.k d.tx) [] (record s { inbox = ds; unanswered = settled_by d s.unanswered })
 

@@ -1,6 +1,7 @@
 //! The top call of the program that plays a deployment file and prints its history.
 #![tactic(auto)]
 
+mod client;
 mod engine;
 mod follower;
 mod leader;

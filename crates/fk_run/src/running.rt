@@ -1,3 +1,6 @@
+ghost use Rattle.std.specs.Prelude.{◌≡◌};
+ghost use Rattle.fk_run.specs.Engine.{is_follower};
+
 use crate::message::Views;
 use fk_base::Paths;
 
@@ -17,6 +20,19 @@ pub(crate) enum Stage {
     Reply,
     Done,
     Remove,
+}
+
+impl Stage {
+    /// Whether it is a follower's.
+    pub(crate) fn is_follower(self) -> bool
+        ensures { result ≡ is_follower self }
+    {
+        match self {
+            Stage::Session | Stage::Lock | Stage::Push | Stage::Commit | Stage::Ack => true,
+            Stage::Finish | Stage::Pending | Stage::Sweep | Stage::Put => false,
+            Stage::Publish | Stage::Reply | Stage::Done | Stage::Remove => false,
+        }
+    }
 }
 
 /// The function that runs: its number, the message that it works on, and where it stands.
