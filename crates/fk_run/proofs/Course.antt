@@ -18,7 +18,8 @@ use Rattle.fk_print.specs.declared.line.Shown.TheVariants as shown
 use Rattle.fk_print.specs.declared.line.Verb.TheVariants as verb
 use Rattle.fk_print.specs.declared.op.Op.{Op}
 use Rattle.fk_print.specs.declared.op.Op.TheVariants as op
-use Rattle.fk_spec.specs.Plan.{Plan, Writes}
+use Rattle.fk_run.specs.Built.{create_plan}
+use Rattle.fk_spec.specs.Plan.{Plan}
 use Rattle.fk_spec.specs.Next.{next_entry, IsHistory}
 use Rattle.fk_spec.specs.Schedule.{next_of_drain}
 
@@ -28,7 +29,7 @@ create n bytes = request.Create (n ∷ []) bytes false false
 
 -- one client with this one command
 abbrev pub plan : ℕ → Name → List ℕ → Plan
-plan beat n bytes = record { lock = 10; beat = beat; asks = (record { verb = verb.Create; wait = true; want = Writes (create n bytes) } ∷ []) ∷ [] }
+plan beat n bytes = create_plan beat (n ∷ []) bytes
 
 abbrev pub tx_line : Name → List ℕ → Line
 tx_line n bytes = line.Tx (record { tx = 1; moment = 11; session = 1; k = 1; act = act.Create (n ∷ []) bytes false false })

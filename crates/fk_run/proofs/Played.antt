@@ -1,5 +1,5 @@
 -- The engine on such a deployment: its states, one after another, and the history that it keeps.
-use Rattle.std.proofs.Common.{◌≡◌, ℕ, Bool, true, false, List, [], ◌∷◌, Option, Some, None, refl}
+use Rattle.std.proofs.Common.{◌≡◌, ℕ, suc, length, Bool, true, false, List, [], ◌∷◌, Option, Some, None, refl}
 use Rattle.fk_base.specs.Path.{Name}
 use Rattle.fk_print.specs.declared.event.Event.{Event}
 use Rattle.fk_print.specs.declared.event.Event.TheVariants as event
@@ -116,128 +116,92 @@ state20 n bytes = record (state19 n bytes) { inbox = []; unanswered = record { c
 abbrev pub state21 : Name → List ℕ → State
 state21 n bytes = record (state20 n bytes) { unanswered = []; seen = 1; past = Course.after21 n bytes }
 
-begins : (n : Name) (bytes : List ℕ) → clock_step 11 (start_state 10 (create n bytes ∷ [])) ≡ state1 n bytes
+pub begins : (n : Name) (bytes : List ℕ) → clock_step 11 (start_state 10 (create n bytes ∷ [])) ≡ state1 n bytes
 begins n bytes = refl
-
-next1 : (n : Name) (bytes : List ℕ) → next_event (state1 n bytes) ≡ Some (event.Client 1)
-next1 n bytes = refl
 
 steps1 : (n : Name) (bytes : List ℕ) → event_step (event.Client 1) (state1 n bytes) ≡ Some (state2 n bytes)
 steps1 n bytes = refl
 
-next2 : (n : Name) (bytes : List ℕ) → next_event (state2 n bytes) ≡ Some (event.Deliver 1)
-next2 n bytes = refl
-
 steps2 : (n : Name) (bytes : List ℕ) → event_step (event.Deliver 1) (state2 n bytes) ≡ Some (state3 n bytes)
 steps2 n bytes = refl
-
-next3 : (n : Name) (bytes : List ℕ) → next_event (state3 n bytes) ≡ Some (event.Step 1)
-next3 n bytes = refl
 
 steps3 : (n : Name) (bytes : List ℕ) → event_step (event.Step 1) (state3 n bytes) ≡ Some (state4 n bytes)
 steps3 n bytes = refl
 
-next4 : (n : Name) (bytes : List ℕ) → next_event (state4 n bytes) ≡ Some (event.Step 1)
-next4 n bytes = refl
-
 steps4 : (n : Name) (bytes : List ℕ) → event_step (event.Step 1) (state4 n bytes) ≡ Some (state5 n bytes)
 steps4 n bytes = refl
-
-next5 : (n : Name) (bytes : List ℕ) → next_event (state5 n bytes) ≡ Some (event.Step 1)
-next5 n bytes = refl
 
 steps5 : (n : Name) (bytes : List ℕ) → event_step (event.Step 1) (state5 n bytes) ≡ Some (state6 n bytes)
 steps5 n bytes = refl
 
-next6 : (n : Name) (bytes : List ℕ) → next_event (state6 n bytes) ≡ Some (event.Step 1)
-next6 n bytes = refl
-
 steps6 : (n : Name) (bytes : List ℕ) → event_step (event.Step 1) (state6 n bytes) ≡ Some (state7 n bytes)
 steps6 n bytes = refl
-
-next7 : (n : Name) (bytes : List ℕ) → next_event (state7 n bytes) ≡ Some (event.Step 1)
-next7 n bytes = refl
 
 steps7 : (n : Name) (bytes : List ℕ) → event_step (event.Step 1) (state7 n bytes) ≡ Some (state8 n bytes)
 steps7 n bytes = simp (Course.same n)
 
-next8 : (n : Name) (bytes : List ℕ) → next_event (state8 n bytes) ≡ Some (event.Step 1)
-next8 n bytes = refl
-
 steps8 : (n : Name) (bytes : List ℕ) → event_step (event.Step 1) (state8 n bytes) ≡ Some (state9 n bytes)
 steps8 n bytes = refl
-
-next9 : (n : Name) (bytes : List ℕ) → next_event (state9 n bytes) ≡ Some event.Leader
-next9 n bytes = refl
 
 steps9 : (n : Name) (bytes : List ℕ) → event_step event.Leader (state9 n bytes) ≡ Some (state10 n bytes)
 steps9 n bytes = refl
 
-next10 : (n : Name) (bytes : List ℕ) → next_event (state10 n bytes) ≡ Some (event.Step 2)
-next10 n bytes = refl
-
 steps10 : (n : Name) (bytes : List ℕ) → event_step (event.Step 2) (state10 n bytes) ≡ Some (state11 n bytes)
 steps10 n bytes = refl
-
-next11 : (n : Name) (bytes : List ℕ) → next_event (state11 n bytes) ≡ Some (event.Step 2)
-next11 n bytes = refl
 
 steps11 : (n : Name) (bytes : List ℕ) → event_step (event.Step 2) (state11 n bytes) ≡ Some (state12 n bytes)
 steps11 n bytes = refl
 
-next12 : (n : Name) (bytes : List ℕ) → next_event (state12 n bytes) ≡ Some (event.Step 2)
-next12 n bytes = refl
-
 steps12 : (n : Name) (bytes : List ℕ) → event_step (event.Step 2) (state12 n bytes) ≡ Some (state13 n bytes)
 steps12 n bytes = refl
-
-next13 : (n : Name) (bytes : List ℕ) → next_event (state13 n bytes) ≡ Some (event.Step 2)
-next13 n bytes = refl
 
 steps13 : (n : Name) (bytes : List ℕ) → event_step (event.Step 2) (state13 n bytes) ≡ Some (state14 n bytes)
 steps13 n bytes = refl
 
-next14 : (n : Name) (bytes : List ℕ) → next_event (state14 n bytes) ≡ Some (event.Step 2)
-next14 n bytes = refl
-
 steps14 : (n : Name) (bytes : List ℕ) → event_step (event.Step 2) (state14 n bytes) ≡ Some (state15 n bytes)
 steps14 n bytes = refl
-
-next15 : (n : Name) (bytes : List ℕ) → next_event (state15 n bytes) ≡ Some (event.Step 2)
-next15 n bytes = refl
 
 steps15 : (n : Name) (bytes : List ℕ) → event_step (event.Step 2) (state15 n bytes) ≡ Some (state16 n bytes)
 steps15 n bytes = refl
 
-next16 : (n : Name) (bytes : List ℕ) → next_event (state16 n bytes) ≡ Some (event.Step 2)
-next16 n bytes = refl
-
 steps16 : (n : Name) (bytes : List ℕ) → event_step (event.Step 2) (state16 n bytes) ≡ Some (state17 n bytes)
 steps16 n bytes = refl
-
-next17 : (n : Name) (bytes : List ℕ) → next_event (state17 n bytes) ≡ Some (event.Step 2)
-next17 n bytes = refl
 
 steps17 : (n : Name) (bytes : List ℕ) → event_step (event.Step 2) (state17 n bytes) ≡ Some (state18 n bytes)
 steps17 n bytes = refl
 
-next18 : (n : Name) (bytes : List ℕ) → next_event (state18 n bytes) ≡ Some (event.Step 2)
-next18 n bytes = refl
-
 steps18 : (n : Name) (bytes : List ℕ) → event_step (event.Step 2) (state18 n bytes) ≡ Some (state19 n bytes)
 steps18 n bytes = refl
 
-next19 : (n : Name) (bytes : List ℕ) → next_event (state19 n bytes) ≡ Some (event.Client 1)
-next19 n bytes = refl
-
 steps19 : (n : Name) (bytes : List ℕ) → event_step (event.Client 1) (state19 n bytes) ≡ Some (state20 n bytes)
 steps19 n bytes = refl
-
-next20 : (n : Name) (bytes : List ℕ) → next_event (state20 n bytes) ≡ Some (event.Client 1)
-next20 n bytes = refl
 
 steps20 : (n : Name) (bytes : List ℕ) → event_step (event.Client 1) (state20 n bytes) ≡ Some (state21 n bytes)
 steps20 n bytes = refl
 
 last : (n : Name) (bytes : List ℕ) → next_event (state21 n bytes) ≡ None
 last n bytes = refl
+
+-- the states one after another
+abbrev pub later_states : Name → List ℕ → List State
+later_states n bytes = state2 n bytes ∷ state3 n bytes ∷ state4 n bytes ∷ state5 n bytes ∷ state6 n bytes ∷ state7 n bytes ∷ state8 n bytes ∷ state9 n bytes ∷ state10 n bytes ∷ state11 n bytes ∷ state12 n bytes ∷ state13 n bytes ∷ state14 n bytes ∷ state15 n bytes ∷ state16 n bytes ∷ state17 n bytes ∷ state18 n bytes ∷ state19 n bytes ∷ state20 n bytes ∷ state21 n bytes ∷ []
+
+abbrev pub states : Name → List ℕ → List State
+states n bytes = state1 n bytes ∷ later_states n bytes
+
+-- each state's next event leads to the next state, and the last has none
+abbrev pub Chain : List State → Type 0
+Chain [] = Unit {0}
+Chain (s ∷ []) = next_event s ≡ None
+Chain (s ∷ t ∷ ss) = ((e : Event) × (next_event s ≡ Some e) × (event_step e s ≡ Some t)) × Chain (t ∷ ss)
+
+pub chain : (n : Name) (bytes : List ℕ) → Chain (states n bytes)
+chain n bytes = ((event.Client 1, refl, steps1 n bytes), ((event.Deliver 1, refl, steps2 n bytes), ((event.Step 1, refl, steps3 n bytes), ((event.Step 1, refl, steps4 n bytes), ((event.Step 1, refl, steps5 n bytes), ((event.Step 1, refl, steps6 n bytes), ((event.Step 1, refl, steps7 n bytes), ((event.Step 1, refl, steps8 n bytes), ((event.Leader, refl, steps9 n bytes), ((event.Step 2, refl, steps10 n bytes), ((event.Step 2, refl, steps11 n bytes), ((event.Step 2, refl, steps12 n bytes), ((event.Step 2, refl, steps13 n bytes), ((event.Step 2, refl, steps14 n bytes), ((event.Step 2, refl, steps15 n bytes), ((event.Step 2, refl, steps16 n bytes), ((event.Step 2, refl, steps17 n bytes), ((event.Step 2, refl, steps18 n bytes), ((event.Client 1, refl, steps19 n bytes), ((event.Client 1, refl, steps20 n bytes), last n bytes))))))))))))))))))))
+
+-- the first has so many entries, and each further one more
+abbrev pub Counted : ℕ → List State → Type 0
+Counted k [] = Unit {0}
+Counted k (s ∷ ss) = (length s.past ≡ k) × Counted (suc k) ss
+
+pub counted : (n : Name) (bytes : List ℕ) → Counted 1 (states n bytes)
+counted n bytes = (refl, (refl, (refl, (refl, (refl, (refl, (refl, (refl, (refl, (refl, (refl, (refl, (refl, (refl, (refl, (refl, (refl, (refl, (refl, (refl, (refl, tt)))))))))))))))))))))

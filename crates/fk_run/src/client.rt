@@ -67,11 +67,14 @@ impl Engine {
         })?;
         self.sends = k;
         self.begun = command;
-        self.enter(Event::Client(1), Op::Send {
-            session: 1,
-            command,
-            k,
-        })?;
+        self.enter(
+            Event::Client(1),
+            Op::Send {
+                session: 1,
+                command,
+                k,
+            },
+        )?;
         Ok(true)
     }
 

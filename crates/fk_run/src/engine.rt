@@ -95,7 +95,14 @@ impl Engine {
         self.enter(Event::Clock(moment), Op::Clock { moment: shown })
     }
 
-    fn start(&mut self, event: Event, op: Op, number: u64, message: u64, stage: Stage) -> Result<(), NoMemory>
+    fn start(
+        &mut self,
+        event: Event,
+        op: Op,
+        number: u64,
+        message: u64,
+        stage: Stage,
+    ) -> Result<(), NoMemory>
         ensures { OnOk result (self.new ≡ starts event op (begun_as number message stage) self.old) }
     {
         self.started = number;
@@ -139,7 +146,20 @@ impl Engine {
         };
         let tx = head.tx;
         let function = self.started.saturating_add(1);
-        self.start(Event::Leader, Op::Leader { function, tx }, function, tx, Stage::Finish)?;
+        self.start(
+            Event::Leader,
+            Op::Leader { function, tx },
+            function,
+            tx,
+            Stage::Finish,
+        )?;
         Ok(true)
+    }
+
+    /// The history that it kept.
+    pub(crate) fn into_past(self) -> History
+        ensures { result ≡ self.past }
+    {
+        self.past
     }
 }

@@ -51,7 +51,10 @@ impl Engine {
             return Ok(false);
         };
         let path = path.copy()?;
-        let Some(view) = self.table.grant(&path, running.number, self.clock, self.lock)? else {
+        let Some(view) = self
+            .table
+            .grant(&path, running.number, self.clock, self.lock)?
+        else {
             return Ok(false);
         };
         running.views.push(view)?;
@@ -92,7 +95,14 @@ impl Engine {
         let edits = message.create.edits(self.alloc)?;
         let function = running.number;
         let tx = running.tx;
-        if !self.table.commit(message.k, function, tx, running.moment, edits.as_slice(), running.paths.as_slice())? {
+        if !self.table.commit(
+            message.k,
+            function,
+            tx,
+            running.moment,
+            edits.as_slice(),
+            running.paths.as_slice(),
+        )? {
             return Ok(false);
         }
         running.stage = Stage::Ack;

@@ -72,10 +72,13 @@ impl Engine {
         if stamp_of(self.stamps.as_slice(), &path) >= tx {
             return Ok(false);
         }
-        self.stamps.insert(0, Stamp {
-            path: path.copy()?,
-            tx,
-        })?;
+        self.stamps.insert(
+            0,
+            Stamp {
+                path: path.copy()?,
+                tx,
+            },
+        )?;
         running.stage = stage_after(&running.paths.as_slice()[at + 1..]);
         running.put = at + 1;
         let function = running.number;

@@ -6,6 +6,7 @@ mod engine;
 mod follower;
 mod leader;
 mod message;
+mod play;
 mod row;
 mod running;
 mod table;

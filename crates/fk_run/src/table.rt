@@ -101,7 +101,13 @@ impl Table {
     }
 
     /// Grants a path's lock where it is free; then the record shows.
-    pub(crate) fn grant(&mut self, path: &Path, function: u64, now: u64, lock: u64) -> Result<Option<View>, NoMemory>
+    pub(crate) fn grant(
+        &mut self,
+        path: &Path,
+        function: u64,
+        now: u64,
+        lock: u64,
+    ) -> Result<Option<View>, NoMemory>
         ensures { IfOk result (λ o. MatchOption o (is_free now lock (row_of path.now self.old.rows) ≡ false) (λ v. (is_free now lock (row_of path.now self.old.rows) ≡ true) × (v ≡ view_of_row (row_of path.now self.old.rows)) × (self.new ≡ granted path.now function now self.old))) }
     {
         let mut row = self.take_row(path)?;
@@ -140,7 +146,15 @@ impl Table {
 
     /// Commits a push: makes its edits, releases its locks and settles its request, where the request
     /// is the next to settle and the push's function still holds every lock.
-    pub(crate) fn commit(&mut self, k: u64, function: u64, tx: u64, moment: u64, edits: &[Edit], paths: &[Path]) -> Result<bool, NoMemory>
+    pub(crate) fn commit(
+        &mut self,
+        k: u64,
+        function: u64,
+        tx: u64,
+        moment: u64,
+        edits: &[Edit],
+        paths: &[Path],
+    ) -> Result<bool, NoMemory>
         ensures { IfOk result (λ b. MatchBool b ((may_commit k function paths.now self.old ≡ true) × (self.new ≡ committed k tx moment edits.now paths.now self.old)) (may_commit k function paths.now self.old ≡ false)) }
     {
         if !is_next(self.settled, k) || !holds_all(self.rows.as_slice(), paths, function) {
