@@ -84,6 +84,7 @@ impl Path {
     }
 
     /// The path of the parent, which the root doesn't have.
+    #[tactic(auto, using(crate::proofs::PathOrder::parent_is))]
     pub fn parent(&self) -> Result<Option<Path>, NoMemory>
         ensures root { IfOk result (λ o. IsNone o ↔ IsTrue (is_root self.now)) }
         ensures parent { IfOk result (λ o. IfSome o (λ p. p ≡ parent self.now)) }
