@@ -13,3 +13,4 @@ pub mod Next
 pub mod Schedule
 pub mod Published
 pub mod Promises
+pub mod Scenarios
