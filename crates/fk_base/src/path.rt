@@ -2,6 +2,7 @@ ghost use Rattle.std.specs.Prelude.{◌≡◌, [], IfOk};
 
 use crate::memory::NoMemory;
 use crate::names::Names;
+use crate::text::Text;
 use std::alloc::Global;
 use std::marker::Model;
 use thiserror::Error;
@@ -38,6 +39,13 @@ impl Path {
         Path {
             names: Names::new(alloc),
         }
+    }
+
+    /// The names from the root down.
+    pub fn as_slice(&self) -> &[Text]
+        ensures { result.now ≡ self.now }
+    {
+        self.names.as_slice()
     }
 
     pub fn copy(&self) -> Result<Path, NoMemory>
