@@ -5,8 +5,6 @@ use Rattle.std.specs.Fmt.{decimal, signed_decimal}
 use Rattle.fk_base.specs.Code.{name_of}
 use Rattle.fk_base.specs.Path.{Name, path_text}
 use Rattle.fk_print.specs.Words.{Text, client, at, place_words, data_word}
-use Rattle.fk_print.specs.declared.op_text.Who.{Who}
-use Rattle.fk_print.specs.declared.op_text.Who.TheVariants as who
 use Rattle.fk_print.specs.declared.piece.Piece.{Piece}
 use Rattle.fk_print.specs.declared.piece.Piece.TheVariants as piece
 
@@ -24,8 +22,3 @@ piece_words names (piece.Data bytes) = data_word bytes.now ∷ []
 
 abbrev pub words_of : List Name → List Piece → List Text
 words_of names pieces = flat_map (piece_words names) pieces
-
--- a function is named by its number, a session by its client
-abbrev pub who_word : List Name → Who → Text
-who_word names (who.Function n) = decimal n
-who_word names (who.Session c) = client names c

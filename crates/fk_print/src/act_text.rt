@@ -15,12 +15,42 @@ pub(crate) fn put_act(out: &mut String, clients: &Names, act: &Act) -> Result<()
 {
     use Piece::*;
     match act {
-        Act::Create { path, bytes, seq, eph } => words(out, clients, &[Word("create"), Word(flag(*seq, *eph)), Path(path), Data(bytes)]),
-        Act::Set { path, bytes, version } => words(out, clients, &[Word("set"), Signed(*version), Path(path), Data(bytes)]),
-        Act::Delete { path, version } => words(out, clients, &[Word("delete"), Signed(*version), Path(path)]),
+        Act::Create {
+            path,
+            bytes,
+            seq,
+            eph,
+        } => words(
+            out,
+            clients,
+            &[
+                Word("create"),
+                Word(flag(*seq, *eph)),
+                Path(path),
+                Data(bytes),
+            ],
+        ),
+        Act::Set {
+            path,
+            bytes,
+            version,
+        } => words(
+            out,
+            clients,
+            &[Word("set"), Signed(*version), Path(path), Data(bytes)],
+        ),
+        Act::Delete { path, version } => words(
+            out,
+            clients,
+            &[Word("delete"), Signed(*version), Path(path)],
+        ),
         Act::Close { evict, gone } => {
             let paths = gone.as_slice();
-            words(out, clients, &[Word(close(*evict)), Number(paths.len() as u64)])?;
+            words(
+                out,
+                clients,
+                &[Word(close(*evict)), Number(paths.len() as u64)],
+            )?;
             put_paths(out, clients, paths)
         }
         Act::Multi(parts) => {
@@ -54,9 +84,30 @@ fn put_part(out: &mut String, clients: &Names, part: &Part) -> Result<(), NoMemo
 {
     use Piece::*;
     match part {
-        Part::Create { path, bytes, eph } => words(out, clients, &[Word("create"), Word(flag(false, *eph)), Path(path), Data(bytes)]),
-        Part::Set { path, bytes, version } => words(out, clients, &[Word("set"), Signed(*version), Path(path), Data(bytes)]),
-        Part::Delete { path, version } => words(out, clients, &[Word("delete"), Signed(*version), Path(path)]),
+        Part::Create { path, bytes, eph } => words(
+            out,
+            clients,
+            &[
+                Word("create"),
+                Word(flag(false, *eph)),
+                Path(path),
+                Data(bytes),
+            ],
+        ),
+        Part::Set {
+            path,
+            bytes,
+            version,
+        } => words(
+            out,
+            clients,
+            &[Word("set"), Signed(*version), Path(path), Data(bytes)],
+        ),
+        Part::Delete { path, version } => words(
+            out,
+            clients,
+            &[Word("delete"), Signed(*version), Path(path)],
+        ),
     }
 }
 

@@ -2,10 +2,12 @@
 #![tactic(auto)]
 
 mod act_text;
+mod client_text;
 mod entry;
 mod entry_text;
 mod event;
 mod event_text;
+mod function_text;
 mod history;
 mod line;
 mod line_text;

@@ -43,8 +43,30 @@ fn put_public(out: &mut String, clients: &Names, line: &Line) -> Result<(), NoMe
     use Piece::*;
     match line {
         Line::Tx(printed) => put_transaction(out, clients, printed),
-        Line::Reply { session, command, verb, shown } => put_reply(out, clients, *session, *command, *verb, shown),
-        Line::Notice { session, tx, kind, change, path } => put_line(out, clients, "!", &[Client(*session), At(*tx), Word(kind_text(*kind)), Word(change_text(*change)), Path(path)]),
+        Line::Reply {
+            session,
+            command,
+            verb,
+            shown,
+        } => put_reply(out, clients, *session, *command, *verb, shown),
+        Line::Notice {
+            session,
+            tx,
+            kind,
+            change,
+            path,
+        } => put_line(
+            out,
+            clients,
+            "!",
+            &[
+                Client(*session),
+                At(*tx),
+                Word(kind_text(*kind)),
+                Word(change_text(*change)),
+                Path(path),
+            ],
+        ),
         Line::Expired { session, tx } => put_line(out, clients, "x", &[Client(*session), At(*tx)]),
     }
 }
@@ -54,18 +76,38 @@ fn put_transaction(out: &mut String, clients: &Names, printed: &Printed) -> Resu
 {
     use Piece::*;
     out.push_str("+")?;
-    words(out, clients, &[Number(printed.tx), Number(printed.moment), Client(printed.session), Number(printed.k)])?;
+    words(
+        out,
+        clients,
+        &[
+            Number(printed.tx),
+            Number(printed.moment),
+            Client(printed.session),
+            Number(printed.k),
+        ],
+    )?;
     put_act(out, clients, &printed.act)?;
     out.push_str("\n")?;
     Ok(())
 }
 
-fn put_reply(out: &mut String, clients: &Names, session: u32, command: u32, verb: Verb, shown: &Shown) -> Result<(), NoMemory>
+fn put_reply(
+    out: &mut String,
+    clients: &Names,
+    session: u32,
+    command: u32,
+    verb: Verb,
+    shown: &Shown,
+) -> Result<(), NoMemory>
     ensures { OnOk result (string_bytes out.new ≡ string_bytes out.old ++ reply_text clients.now session command verb shown.now) }
 {
     use Piece::*;
     out.push_str("<")?;
-    words(out, clients, &[Client(session), Number(command as u64), Word(verb.text())])?;
+    words(
+        out,
+        clients,
+        &[Client(session), Number(command as u64), Word(verb.text())],
+    )?;
     put_shown(out, clients, shown)?;
     out.push_str("\n")?;
     Ok(())

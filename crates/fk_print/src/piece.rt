@@ -37,7 +37,12 @@ pub(crate) fn words(out: &mut String, clients: &Names, pieces: &[Piece]) -> Resu
 }
 
 /// Writes a line: its mark, its words and a line feed.
-pub(crate) fn put_line(out: &mut String, clients: &Names, mark: &str, pieces: &[Piece]) -> Result<(), NoMemory>
+pub(crate) fn put_line(
+    out: &mut String,
+    clients: &Names,
+    mark: &str,
+    pieces: &[Piece],
+) -> Result<(), NoMemory>
     ensures { OnOk result (string_bytes out.new ≡ string_bytes out.old ++ marked mark.now (words_of clients.now pieces.now)) }
 {
     out.push_str(mark)?;

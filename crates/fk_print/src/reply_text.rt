@@ -14,11 +14,19 @@ pub(crate) fn put_shown(out: &mut String, clients: &Names, shown: &Shown) -> Res
     use Piece::*;
     match shown {
         Shown::Created { tx, path } => words(out, clients, &[Word("ok"), At(*tx), Path(path)]),
-        Shown::Version { tx, version } => words(out, clients, &[Word("ok"), At(*tx), Number(*version as u64)]),
+        Shown::Version { tx, version } => words(
+            out,
+            clients,
+            &[Word("ok"), At(*tx), Number(*version as u64)],
+        ),
         Shown::Done { tx } => words(out, clients, &[Word("ok"), At(*tx)]),
         Shown::Multi { tx, replies } => {
             let replies = replies.as_slice();
-            words(out, clients, &[Word("ok"), At(*tx), Number(replies.len() as u64)])?;
+            words(
+                out,
+                clients,
+                &[Word("ok"), At(*tx), Number(replies.len() as u64)],
+            )?;
             put_part_replies(out, clients, replies)
         }
         Shown::Got { at, bytes, stat } => {
@@ -31,12 +39,45 @@ pub(crate) fn put_shown(out: &mut String, clients: &Names, shown: &Shown) -> Res
         }
         Shown::Listed { at, names } => {
             let names = names.as_slice();
-            words(out, clients, &[Word("ok"), At(*at), Number(names.len() as u64)])?;
+            words(
+                out,
+                clients,
+                &[Word("ok"), At(*at), Number(names.len() as u64)],
+            )?;
             put_names(out, clients, names)
         }
-        Shown::Refused { code, at, place } => words(out, clients, &[Word("err"), Signed(code.number()), Code(*code), Place(*place), At(*at)]),
-        Shown::Plain(code) => words(out, clients, &[Word("err"), Signed(code.number()), Code(*code)]),
-        Shown::Lost { path, own, found, moment } => words(out, clients, &[Word("err LOCKLOST"), Path(path), Number(*own), Number(*found), Number(*moment)]),
+        Shown::Refused { code, at, place } => words(
+            out,
+            clients,
+            &[
+                Word("err"),
+                Signed(code.number()),
+                Code(*code),
+                Place(*place),
+                At(*at),
+            ],
+        ),
+        Shown::Plain(code) => words(
+            out,
+            clients,
+            &[Word("err"), Signed(code.number()), Code(*code)],
+        ),
+        Shown::Lost {
+            path,
+            own,
+            found,
+            moment,
+        } => words(
+            out,
+            clients,
+            &[
+                Word("err LOCKLOST"),
+                Path(path),
+                Number(*own),
+                Number(*found),
+                Number(*moment),
+            ],
+        ),
     }
 }
 
@@ -44,19 +85,23 @@ fn put_stat(out: &mut String, clients: &Names, stat: &Stat) -> Result<(), NoMemo
     ensures { OnOk result (string_bytes out.new ≡ string_bytes out.old ++ spaced (stat_words stat.now)) }
 {
     use Piece::Number;
-    words(out, clients, &[
-        Number(stat.czxid),
-        Number(stat.mzxid),
-        Number(stat.pzxid),
-        Number(stat.ctime),
-        Number(stat.mtime),
-        Number(stat.version as u64),
-        Number(stat.cversion as u64),
-        Number(stat.aversion as u64),
-        Number(stat.owner as u64),
-        Number(stat.length as u64),
-        Number(stat.children as u64),
-    ])
+    words(
+        out,
+        clients,
+        &[
+            Number(stat.czxid),
+            Number(stat.mzxid),
+            Number(stat.pzxid),
+            Number(stat.ctime),
+            Number(stat.mtime),
+            Number(stat.version as u64),
+            Number(stat.cversion as u64),
+            Number(stat.aversion as u64),
+            Number(stat.owner as u64),
+            Number(stat.length as u64),
+            Number(stat.children as u64),
+        ],
+    )
 }
 
 fn put_names(out: &mut String, clients: &Names, names: &[Text]) -> Result<(), NoMemory>
@@ -68,7 +113,11 @@ fn put_names(out: &mut String, clients: &Names, names: &[Text]) -> Result<(), No
     Ok(())
 }
 
-fn put_part_replies(out: &mut String, clients: &Names, replies: &[PartReply]) -> Result<(), NoMemory>
+fn put_part_replies(
+    out: &mut String,
+    clients: &Names,
+    replies: &[PartReply],
+) -> Result<(), NoMemory>
     ensures { OnOk result (string_bytes out.new ≡ string_bytes out.old ++ spaced (map part_reply_word replies.now)) }
 {
     for reply in replies {

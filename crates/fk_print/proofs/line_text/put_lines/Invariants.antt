@@ -1,8 +1,6 @@
-use Rattle.std.proofs.Common.{◌≡◌, ◌++◌, string_bytes, map, take}
+use Rattle.std.proofs.Common.{◌≡◌, ◌++◌, string_bytes, take}
 use Rattle.std.specs.List.{flat_map}
-use Rattle.fk_base.specs.Path.{path_text}
-use Rattle.fk_print.specs.Words.{spaced}
-use Rattle.fk_print.specs.LineText.{part_words, part_reply_word, line_text}
+use Rattle.fk_print.specs.LineText.{line_text}
 use Rattle.fk_print.proofs.line_text.put_lines.Given as goal
 
 abbrev pub invariant-loop-line : goal.invariant-loop-line
