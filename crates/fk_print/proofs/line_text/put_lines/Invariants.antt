@@ -1,0 +1,7 @@
+use Rattle.std.proofs.Common.{◌≡◌, ◌++◌, string_bytes, take}
+use Rattle.std.specs.List.{flat_map}
+use Rattle.fk_print.specs.LineText.{line_text}
+use Rattle.fk_print.proofs.line_text.put_lines.Given as goal
+
+abbrev pub invariant-loop-line : goal.invariant-loop-line
+invariant-loop-line l = string_bytes l.out ≡ string_bytes l.initial.out ++ flat_map (line_text l.clients) (take l.line-index l.lines)

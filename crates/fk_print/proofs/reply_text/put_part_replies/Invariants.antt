@@ -1,0 +1,7 @@
+use Rattle.std.proofs.Common.{◌≡◌, ◌++◌, string_bytes, map, take}
+use Rattle.fk_print.specs.Words.{spaced}
+use Rattle.fk_print.specs.LineText.{part_reply_word}
+use Rattle.fk_print.proofs.reply_text.put_part_replies.Given as goal
+
+abbrev pub invariant-loop-reply : goal.invariant-loop-reply
+invariant-loop-reply l = string_bytes l.out ≡ string_bytes l.initial.out ++ spaced (map part_reply_word (take l.reply-index l.replies))
