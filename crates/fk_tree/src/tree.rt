@@ -41,6 +41,7 @@ impl Model for Tree {
 
 impl Tree {
     /// The tree with the root alone.
+    #[tactic(auto, using(crate::proofs::Standing::start_kept))]
     pub fn new(alloc: Global) -> Result<Tree, NoMemory>
         ensures { IfOk result (λ t. t ≡ start_tree) }
     {
@@ -98,6 +99,7 @@ impl Tree {
     }
 
     /// Applies a request that was filled on this tree, and tells its reply.
+    #[tactic(auto, using(crate::proofs::Written::same_kept, crate::proofs::Written::same_nodes, crate::proofs::Standing::applied_kept, crate::proofs::Standing::applied_tree))]
     pub fn apply(&mut self, applied: &Applied) -> Result<Reply, NoMemory>
         requires plain { IsPlain applied.now.request }
         requires filled { IsFilled self.old applied.now }
