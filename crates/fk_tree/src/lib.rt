@@ -15,6 +15,8 @@ mod replies;
 mod reply;
 mod request;
 mod rows;
+#[cfg(test)]
+mod tests;
 mod tree;
 
 pub use applied::{Applied, Made};

@@ -11,6 +11,7 @@ use crate::effect_list::effects;
 use crate::fault::CheckFault;
 use crate::lists::Mades;
 use crate::node::Node;
+use crate::node_edit::up;
 use crate::replies::reply_to;
 use crate::reply::Reply;
 use crate::request::Request;
@@ -167,10 +168,7 @@ impl Tree {
         ensures { result ≡ fill_version (look self.now) request.now }
     {
         match request {
-            Request::Set { path, .. } => match self.node(path) {
-                None => 1,
-                Some(node) => node.version.saturating_add(1),
-            },
+            Request::Set { path, .. } => up(self.node(path).map_or(0, |node| node.version)),
             Request::Create { .. }
             | Request::Delete { .. }
             | Request::Close { .. }
