@@ -1,8 +1,11 @@
 mod Deletes
 mod Keeping
+mod Listing
 mod Order
 mod Parents
 mod Rising
 mod Samples
 mod Sorting
+mod Standing
 mod Views
+mod Written

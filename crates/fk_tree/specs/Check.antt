@@ -1,9 +1,11 @@
 -- Which requests are refused, with which code: the first check that fails.
-use Rattle.std.specs.Prelude.{ℕ, suc, ℤ, negsuc, pos, ◌==◌, Bool, true, false, if◌then◌else◌, ◌||◌, List, [], ◌∷◌, Option, Some, None, is_some}
+use Rattle.std.specs.Prelude.{◌≡◌, ℕ, suc, ℤ, negsuc, pos, ◌==◌, Bool, true, false, if◌then◌else◌, ◌||◌, List, [], ◌∷◌, Option, Some, None, is_some}
 use Rattle.std.specs.Ordering.{int_eq}
 use Rattle.fk_base.specs.Path.{Name, PathNames, parent, is_root}
 use Rattle.fk_base.specs.declared.code.Code.{Code}
 use Rattle.fk_base.specs.declared.code.Code.TheVariants as code
+use Rattle.fk_tree.specs.declared.fault.CheckFault.{CheckFault}
+use Rattle.fk_tree.specs.declared.fault.CheckFault.TheVariants as fault
 use Rattle.fk_tree.specs.View.{View}
 use Rattle.fk_tree.specs.Fill.{final_path, after_part}
 use Rattle.fk_tree.specs.declared.node.Node.{Node}
@@ -74,3 +76,16 @@ check_open v session (request.Multi ps) = check_parts v session 1 ps
 -- None where the request passes, else its refusal; a closed session's requests are all refused
 abbrev pub check : View → ℕ → Request → Option Refusal
 check v session r = if v.closed session then Some (record { code = code.SessionExpired; place = 0 }) else check_open v session r
+
+-- a refusal is told with its code and its place; want of memory says nothing of the request
+abbrev pub IsFault : CheckFault → Option Refusal → Type 0
+IsFault (fault.Refused c place) o = o ≡ Some (record { code = c; place = place })
+IsFault fault.NoMemory o = Unit {0}
+
+-- a create that isn't sequential, a set or a delete
+abbrev pub IsPlain : Request → Type 0
+IsPlain (request.Create p bytes seq eph) = seq ≡ false
+IsPlain (request.Set p bytes version) = Unit {0}
+IsPlain (request.Delete p version) = Unit {0}
+IsPlain (request.Close evict) = ⊥
+IsPlain (request.Multi ps) = ⊥

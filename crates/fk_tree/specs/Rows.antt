@@ -54,6 +54,10 @@ pub record IsKept (rows : List Row) : Type 0 where
 abbrev pub KeepSame : List Row → List Row → Type 0
 KeepSame rows others = (p : PathNames) → row_node p others ≡ row_node p rows
 
+-- the rows keep what the edits leave of each path
+abbrev pub AreEdited : ℕ → ℕ → List Edit → List Row → List Row → Type 0
+AreEdited tx moment es rows others = (p : PathNames) → row_node p others ≡ edited tx moment p es (row_node p rows)
+
 -- no row is lost
 abbrev pub KeepsRows : List Row → List Row → Type 0
 KeepsRows rows others = (p : PathNames) → has_row p rows ≡ true → has_row p others ≡ true

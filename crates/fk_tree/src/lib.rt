@@ -6,18 +6,27 @@ mod applied;
 mod change;
 mod child_names;
 mod edit;
+mod effect_list;
+mod fault;
 mod lists;
 mod node;
 mod node_edit;
+mod replies;
 mod reply;
 mod request;
 mod rows;
+#[cfg(test)]
+mod tests;
+mod tree;
 
 pub use applied::{Applied, Made};
 pub use change::{Change, Kind, Touch};
 pub use edit::{Edit, What};
+pub use effect_list::effects;
+pub use fault::CheckFault;
 pub use lists::{Edits, Mades, Parts, Replies, Touches};
 pub use node::{Node, Stat};
 pub use node_edit::edit_node;
 pub use reply::{Answer, PartReply, Reply};
 pub use request::{Part, Query, Request};
+pub use tree::Tree;

@@ -82,9 +82,8 @@ fn add_child(node: &mut Option<Node>, name: &Text, tx: u64) -> Result<(), NoMemo
         return Ok(());
     }
     add_name(&mut node.names, name)?;
-    node.cversion = up(node.cversion);
     node.made = up(node.made);
-    node.pzxid = tx;
+    note_child(node, tx);
     Ok(())
 }
 
@@ -98,6 +97,13 @@ fn drop_child(node: &mut Option<Node>, name: &Text, tx: u64)
         return;
     }
     drop_name(&mut node.names, name);
+    note_child(node, tx);
+}
+
+// a child came or went
+fn note_child(node: &mut Node, tx: u64)
+    ensures { node.new ≡ record node.old { cversion = up node.old.cversion; pzxid = tx } }
+{
     node.cversion = up(node.cversion);
     node.pzxid = tx;
 }
@@ -109,8 +115,8 @@ fn is_child(node: &Node, name: &Text) -> bool
     place_of(node.names.as_slice(), name).is_some()
 }
 
-// one more, up to the greatest number of 32 bits
-fn up(count: u32) -> u32
+/// One more, up to the greatest number of 32 bits.
+pub fn up(count: u32) -> u32
     ensures { result ≡ up count }
 {
     count.saturating_add(1)

@@ -1,15 +1,16 @@
 //! The nodes of a tree in rows.
 
-ghost use Rattle.std.specs.Prelude.{◌≡◌, ℕ, true, None, Some, MatchOption, IfOk, OnOk, OnErr, if◌then◌else◌};
+ghost use Rattle.std.specs.Prelude.{◌≡◌, [], ℕ, true, None, Some, MatchOption, IfOk, OnOk, OnErr, if◌then◌else◌};
 ghost use Rattle.fk_base.specs.Path.{PathNames, same_path};
 ghost use Rattle.fk_tree.specs.Edit.{edited};
-ghost use Rattle.fk_tree.specs.Rows.{edited_rows, has_row, have_rows, row_from, row_node, rows_have_rows, written, KeepSame, KeepsRows};
+ghost use Rattle.fk_tree.specs.Tree.{root_node, with_names};
+ghost use Rattle.fk_tree.specs.Rows.{edited_rows, has_row, have_rows, row_from, row_node, rows_have_rows, written, AreEdited, KeepSame, KeepsRows};
 
 use crate::edit::Edit;
 use crate::lists::Edits;
 use crate::node::Node;
 use crate::node_edit::edit_node;
-use fk_base::{NoMemory, Path};
+use fk_base::{Bytes, Names, NoMemory, Path};
 use std::alloc::Global;
 
 /// A path and its node; a path that was deleted keeps its row, without a node.
@@ -17,6 +18,29 @@ use std::alloc::Global;
 pub struct Row {
     pub path: Path,
     pub node: Option<Node>,
+}
+
+/// The row of the root as it starts: no data, no child and all numbers 0.
+pub fn root_row(alloc: Global) -> Row
+    ensures path { result.path ≡ [] }
+    ensures node { result.node ≡ Some (with_names [] root_node) }
+{
+    Row {
+        path: Path::root(alloc),
+        node: Some(Node {
+            bytes: Bytes::new(alloc),
+            czxid: 0,
+            mzxid: 0,
+            pzxid: 0,
+            ctime: 0,
+            mtime: 0,
+            version: 0,
+            cversion: 0,
+            made: 0,
+            owner: 0,
+            names: Names::new(alloc),
+        }),
+    }
 }
 
 pub fn node_in<'a>(rows: &'a [Row], path: &Path) -> Option<&'a Node>
@@ -41,7 +65,7 @@ fn place_of(rows: &[Row], path: &Path) -> Option<usize>
     None
 }
 
-/// Sees that a path has a row.
+// sees that a path has a row.
 #[tactic(auto, using(crate::proofs::Keeping::row_added, crate::proofs::Keeping::rows_stay, crate::proofs::Keeping::empty_row_keeps, crate::proofs::Keeping::some_placed))]
 fn add_row(rows: &mut Vec<Row>, path: &Path) -> Result<(), NoMemory>
     ensures row { OnOk result (has_row path.now rows.new.items ≡ true) }
@@ -57,9 +81,9 @@ fn add_row(rows: &mut Vec<Row>, path: &Path) -> Result<(), NoMemory>
     Ok(())
 }
 
-/// Sees that each edited path has a row.
+// sees that each edited path has a row.
 #[tactic(auto, using(crate::proofs::Keeping::have_rows_step))]
-pub fn add_rows(rows: &mut Vec<Row>, edits: &[Edit]) -> Result<(), NoMemory>
+fn add_rows(rows: &mut Vec<Row>, edits: &[Edit]) -> Result<(), NoMemory>
     ensures rows { OnOk result (have_rows edits.now rows.new.items ≡ true) }
     ensures same { KeepSame rows.old.items rows.new.items }
 {
@@ -91,9 +115,9 @@ fn node_after(
     Ok(node)
 }
 
-/// A row for each edit, with the node that the edits leave there.
+// a row for each edit, with the node that the edits leave there.
 #[tactic(auto, using(crate::proofs::Keeping::edited_rows_step))]
-pub fn rows_after(
+fn rows_after(
     alloc: Global,
     rows: &[Row],
     edits: &[Edit],
@@ -124,13 +148,30 @@ fn write_row(rows: &mut Vec<Row>, row: Row)
     }
 }
 
-/// Puts rows in place of those of their paths.
+// puts rows in place of those of their paths.
 #[tactic(auto, using(crate::proofs::Keeping::written_last, crate::proofs::Keeping::last_has_row, crate::proofs::Keeping::have_rows_like))]
-pub fn write_rows(rows: &mut Vec<Row>, mut changed: Vec<Row>)
+fn write_rows(rows: &mut Vec<Row>, mut changed: Vec<Row>)
     requires { rows_have_rows changed.items rows.old.items ≡ true }
     ensures { (p : PathNames) → row_node p rows.new.items ≡ written p changed.items (row_node p rows.old.items) }
 {
     'writing: while let Some(row) = changed.pop() {
         write_row(rows, row);
     }
+}
+
+/// Makes edits of the nodes. It takes all memory before it changes a node.
+#[tactic(auto, using(crate::proofs::Written::edited_have_rows, crate::proofs::Written::written_edits))]
+pub fn write_edits(
+    rows: &mut Vec<Row>,
+    edits: &[Edit],
+    tx: u64,
+    moment: u64,
+) -> Result<(), NoMemory>
+    ensures ok { OnOk result (AreEdited tx moment edits.now rows.old.items rows.new.items) }
+    ensures err { OnErr result (KeepSame rows.old.items rows.new.items) }
+{
+    add_rows(rows, edits)?;
+    let changed = rows_after(*rows.allocator(), rows.as_slice(), edits, tx, moment)?;
+    write_rows(rows, changed);
+    Ok(())
 }
