@@ -1,0 +1,6 @@
+pub mod EntryText
+pub mod EventText
+pub mod LineText
+pub mod OpText
+pub mod Pieces
+pub mod Words

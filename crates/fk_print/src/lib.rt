@@ -1,14 +1,22 @@
 //! Histories: what happened in a run, event by event, and its text.
 #![tactic(auto)]
 
+mod act_text;
 mod entry;
+mod entry_text;
 mod event;
+mod event_text;
 mod history;
 mod line;
+mod line_text;
 mod lines;
 mod op;
+mod op_text;
+mod piece;
+mod reply_text;
 
 pub use entry::Entry;
+pub use entry_text::render_entry;
 pub use event::Event;
 pub use history::History;
 pub use line::{Act, Line, Printed, Shown, Verb};
