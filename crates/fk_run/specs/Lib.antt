@@ -1,2 +1,5 @@
 pub mod Built
+pub mod Cut
+pub mod FirstForm
 pub mod Run
+pub mod Statuses

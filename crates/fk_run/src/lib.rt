@@ -1,2 +1,10 @@
 //! The top call of the program that plays a deployment file and prints its history.
 #![tactic(auto)]
+
+mod engine;
+mod form;
+mod status;
+mod top;
+mod write;
+
+pub use top::fk_run;
