@@ -8,3 +8,6 @@ mod top;
 mod write;
 
 pub use top::fk_run;
+
+#[cfg(test)]
+mod tests;
