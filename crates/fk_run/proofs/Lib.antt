@@ -1,7 +1,2 @@
-pub mod Chains
-pub mod Course
-pub mod Forms
-pub mod Lawfulness
-pub mod Played
-pub mod Playing
-pub mod Rows
+pub mod Cuts
+pub mod Texts

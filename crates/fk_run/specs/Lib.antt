@@ -1,5 +1,4 @@
-pub mod Built
-pub mod Engine
-pub mod Message
+pub mod Cut
+pub mod FirstForm
 pub mod Run
-pub mod Table
+pub mod Statuses

@@ -1,12 +1,12 @@
 //! The top call of the program that plays a deployment file and prints its history.
 #![tactic(auto)]
 
-mod client;
-mod engine;
-mod follower;
-mod leader;
-mod message;
-mod play;
-mod row;
-mod running;
-mod table;
+mod form;
+mod status;
+mod top;
+mod write;
+
+pub use top::fk_run;
+
+#[cfg(test)]
+mod tests;

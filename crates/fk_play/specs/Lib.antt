@@ -1,0 +1,5 @@
+pub mod Built
+pub mod Engine
+pub mod Message
+pub mod Run
+pub mod Table

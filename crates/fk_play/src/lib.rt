@@ -1,0 +1,15 @@
+//! Plays a deployment of the form that runs so far: one client with one create. The services stand as
+//! plain lists beside the history; this crate is the seed of the world and gives way to it.
+#![tactic(auto)]
+
+mod client;
+mod engine;
+mod follower;
+mod leader;
+mod message;
+mod play;
+mod row;
+mod running;
+mod table;
+
+pub use play::play;
