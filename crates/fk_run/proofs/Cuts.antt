@@ -1,5 +1,5 @@
 -- A text cut at a byte, and the words of the first form put together and taken apart.
-use Rattle.std.proofs.Common.{◌≡◌, ◌≢◌, ℕ, suc, ◌+◌, ◌<◌, length, get_or, append_assoc, Bool, true, false, cond, eqb, List, [], ◌∷◌, ◌++◌, Option, Some, None, refl, sym, ◌∙◌, ap, arith}
+use Rattle.std.proofs.Common.{◌≡◌, ◌≢◌, ℕ, suc, ◌<◌, length, get_or, append_assoc, Bool, true, false, cond, List, [], ◌∷◌, ◌++◌, Option, Some, None, refl, sym, ◌∙◌, ap, arith}
 use Rattle.std.specs.Prelude.{◌==◌, ◌&&◌, ◌||◌, not, codes}
 use Rattle.std.specs.List.{list_all, list_any}
 use Rattle.std.proofs.lemmas.Bool.{false≢true}
@@ -7,7 +7,7 @@ use Rattle.std.proofs.lemmas.Bool.Decides.{nat_tests}
 use Rattle.std.proofs.lemmas.Str.Pattern.{IsSplitOnceResult, split_parts}
 use Rattle.std.specs.Prelude.{MatchOption, IfSome}
 use denote.Ref.{Bor}
-use Rattle.fk_run.specs.Cut.{Two, Three, onto_front, cut, from_first, from_second, lone_front, with_name, three}
+use Rattle.fk_run.specs.Cut.{Three, onto_front, cut, from_first, from_second, lone_front, with_name, three}
 use Rattle.fk_run.specs.FirstForm.{is_blank, is_word, is_path_word, is_letter_or_digit, is_client_name, form_text, one_create, Means}
 use Rattle.fk_script.specs.declared.deployment.Deployment.{Deployment}
 use Rattle.std.specs.Str.{IsUtf8}
@@ -42,12 +42,12 @@ cut_at mark (x ∷ xs) ys h = step (x == mark) h (cut_at mark xs ys)
 
 -- what `split_once` gives
 pub cut_exact : (mark : ℕ) (bs : List ℕ) (r : Option (Bor (List ℕ) × Bor (List ℕ))) → IsSplitOnceResult mark bs r → mark < 128
-  → MatchOption r (cut mark bs ≡ None) (λ x. cut mark bs ≡ Some (record { front = x.0.now; back = x.1.now }))
+    → MatchOption r (cut mark bs ≡ None) (λ x. cut mark bs ≡ Some (record { front = x.0.now; back = x.1.now }))
 cut_exact mark bs None h l = cut_none mark bs (lacks_each mark bs (split_parts mark bs None h l))
 cut_exact mark bs (Some x) h l = ap (cut mark) (split_parts mark bs (Some x) h l).0 ∙ cut_at mark x.0.now x.1.now (lacks_each mark x.0.now (split_parts mark bs (Some x) h l).1)
 
 pub cut_written : (mark : ℕ) (bs : List ℕ) (r : Option (Bor (List ℕ) × Bor (List ℕ))) → IsSplitOnceResult mark bs r → mark < 128
-  → IfSome r (λ x. bs ≡ x.0.now ++ mark ∷ x.1.now)
+    → IfSome r (λ x. bs ≡ x.0.now ++ mark ∷ x.1.now)
 cut_written mark bs None h l = tt
 cut_written mark bs (Some x) h l = (split_parts mark bs (Some x) h l).0
 
@@ -61,8 +61,8 @@ has-append mark (x ∷ xs) ys g h = step (x == mark) g (has-append mark xs ys)
 
 -- the words of the form, put together
 pub form_is : (text first rest second end words name path bytes : List ℕ)
-  → text ≡ first ++ 10 ∷ rest → first ≡ codes "client" ++ 32 ∷ name → rest ≡ second ++ 10 ∷ end → end ≡ [] → second ≡ codes "create" ++ 32 ∷ words → words ≡ path ++ 32 ∷ bytes
-  → text ≡ form_text name path bytes
+    → text ≡ first ++ 10 ∷ rest → first ≡ codes "client" ++ 32 ∷ name → rest ≡ second ++ 10 ∷ end → end ≡ [] → second ≡ codes "create" ++ 32 ∷ words → words ≡ path ++ 32 ∷ bytes
+    → text ≡ form_text name path bytes
 form_is text first rest second end words name path bytes a b c d e f = rw (a, b, c, d, e, f) (simp append_assoc)
 
 two_lines : (name path bytes : List ℕ) → form_text name path bytes ≡ (codes "client " ++ name) ++ 10 ∷ ((codes "create " ++ (path ++ 32 ∷ bytes)) ++ 10 ∷ [])
@@ -70,7 +70,7 @@ two_lines name path bytes = simp append_assoc
 
 -- and taken apart
 pub three_of_form : (name path bytes : List ℕ) → has 10 name ≡ false → has 10 path ≡ false → has 32 path ≡ false → has 10 bytes ≡ false
-  → three (form_text name path bytes) ≡ Some (record { name = name; path = path; bytes = bytes })
+    → three (form_text name path bytes) ≡ Some (record { name = name; path = path; bytes = bytes })
 three_of_form name path bytes n p q b =
     ap (λ t. from_first (cut 10 t)) (two_lines name path bytes)
     ∙ ap from_first (cut_at 10 (codes "client " ++ name) ((codes "create " ++ (path ++ 32 ∷ bytes)) ++ 10 ∷ []) n)
@@ -129,13 +129,13 @@ same_three : (s t : Three) → Some s ≡ Some t → s ≡ t
 same_three s t e = cc
 
 pub no_fit : (text name path bytes : List ℕ) → three text ≡ Some (record { name = name; path = path; bytes = bytes })
-  → (is_client_name name && is_path_word path && is_word bytes) ≡ false → (d : Deployment) → Means text d → ⊥
+    → (is_client_name name && is_path_word path && is_word bytes) ≡ false → (d : Deployment) → Means text d → ⊥
 no_fit text name path bytes e f d m =
     let s = same_three (record { name = name; path = path; bytes = bytes }) (record { name = m.name; path = m.path; bytes = m.bytes }) (sym e ∙ three_of_meant text d m) in
     false≢true (sym f ∙ ap (λ (t : Three). is_client_name t.name && is_path_word t.path && is_word t.bytes) s ∙ all_of (is_client_name m.name) (is_path_word m.path) (is_word m.bytes) m.is_name m.is_path m.is_data)
 
 pub meant : (text name path bytes : List ℕ) → IsUtf8 text → text ≡ form_text name path bytes
-  → (is_client_name name && is_path_word path && is_word bytes) ≡ true → (d : Deployment) → d ≡ one_create name path bytes → Means text d
+    → (is_client_name name && is_path_word path && is_word bytes) ≡ true → (d : Deployment) → d ≡ one_create name path bytes → Means text d
 meant text name path bytes u w f d e = let parts = all_true (is_client_name name) (is_path_word path) (is_word bytes) f in
     record { name = name; path = path; bytes = bytes; utf8 = u; written = w; is_name = parts.0; is_path = parts.1; is_data = parts.2; deployment = e }
 

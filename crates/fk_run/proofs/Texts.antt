@@ -32,8 +32,8 @@ appends_both (Some x) (Some y) (Some z) a b g h = rw (h, g, append_assoc) refl
 
 -- one entry more was written
 pub entry_more : (names : List Name) (es : List Entry) (i : ℕ) (e : Entry) (x y z : Option (List ℕ)) (piece : List ℕ)
-  → i < length es → e ≡ get_or es i e → piece ≡ entry_text names e
-  → Appends x y (text_of_first names i es) → Appends y z piece → Appends x z (text_of_first names (i + 1) es)
+    → i < length es → e ≡ get_or es i e → piece ≡ entry_text names e
+    → Appends x y (text_of_first names i es) → Appends y z piece → Appends x z (text_of_first names (i + 1) es)
 entry_more names es i e x y z piece l is p g h =
     rw (text_more names es i e l) (appends_both x y z (text_of_first names i es) (entry_text names (get_or es i e)) g (subst (λ (t : List ℕ). Appends y z t) (p ∙ ap (entry_text names) is) h))
 

@@ -104,7 +104,10 @@ fn is_client_name(name: &str) -> bool
     ensures { result ≡ is_client_name name.now }
 {
     let bytes = name.as_bytes();
-    starts_with_letter(bytes) && are_letters_or_digits(bytes) && name.len() <= 32 && !is_reserved(name)
+    starts_with_letter(bytes)
+        && are_letters_or_digits(bytes)
+        && name.len() <= 32
+        && !is_reserved(name)
 }
 
 fn starts_with_letter(bytes: &[u8]) -> bool

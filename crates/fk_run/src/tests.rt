@@ -4,11 +4,22 @@ use std::alloc::Global;
 use std::test::Fail;
 
 /// The status of a run over memory, or 255 where other bytes than `wanted` were written.
-fn status(alloc: Global, words: &[String], input: &[u8], failing_reads: &[u64], failing_writes: &[u64], wanted: &[u8]) -> Result<u8, NoMemory> {
+fn status(
+    alloc: Global,
+    words: &[String],
+    input: &[u8],
+    failing_reads: &[u64],
+    failing_writes: &[u64],
+    wanted: &[u8],
+) -> Result<u8, NoMemory> {
     let mut source = MemSource::new(alloc, input, failing_reads)?;
     let mut sink = MemSink::new(alloc, 4096, failing_writes)?;
     let status = fk_run(alloc, words, &mut source, &mut sink);
-    Ok(if sink.as_slice() == wanted { status } else { 255 })
+    Ok(if sink.as_slice() == wanted {
+        status
+    } else {
+        255
+    })
 }
 
 #[test]
@@ -38,7 +49,14 @@ fn refuses_other_forms(rt: HostRuntime) -> Result<(), Fail> {
         "client 1a\ncreate /x hi\n",
         "client leader\ncreate /x hi\n",
     ] {
-        let status = status(rt.alloc(), &[], input.as_bytes(), &[], &[], b"bad Unbuilt\n")?;
+        let status = status(
+            rt.alloc(),
+            &[],
+            input.as_bytes(),
+            &[],
+            &[],
+            b"bad Unbuilt\n",
+        )?;
         assert_eq!(rt; status, 65, "at {input}");
     }
     Ok(())

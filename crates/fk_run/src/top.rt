@@ -27,7 +27,12 @@ struct Run {
 ///
 /// The statuses, the first that fits: 64 words on the command line, 66 a read fault, 65 an input
 /// that can't be played, 74 a write fault, 71 want of memory, 0 else.
-pub fn fk_run<S: Source, K: Sink>(alloc: Global, words: &[String], source: &mut S, sink: &mut K) -> u8
+pub fn fk_run<S: Source, K: Sink>(
+    alloc: Global,
+    words: &[String],
+    source: &mut S,
+    sink: &mut K,
+) -> u8
     ensures words { (result ≡ 64) ↔ (words.now ≢ []) }
     ensures unread { result ≡ 64 → source.new ≡ source.old }
     ensures unwritten { result ≡ 64 → sink.new ≡ sink.old }

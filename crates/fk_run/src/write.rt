@@ -10,7 +10,12 @@ use std::alloc::Global;
 
 /// Offers the text of a history entry by entry, the oldest first.
 #[tactic(auto, using(crate::proofs::Texts::text_more, crate::proofs::Texts::text_all))]
-pub(crate) fn write_history<K: Sink>(alloc: Global, clients: &Names, history: &History, sink: &mut K) -> u8
+pub(crate) fn write_history<K: Sink>(
+    alloc: Global,
+    clients: &Names,
+    history: &History,
+    sink: &mut K,
+) -> u8
     ensures done { result ≡ 0 → Appends (K.taken sink.old) (K.taken sink.new) (history_text clients.now history.now) }
     ensures fault { result ≡ 74 → Rose (K.faults sink.old) (K.faults sink.new) }
     ensures statuses { (result ≡ 0) ⊎ (result ≡ 71) ⊎ (result ≡ 74) }
