@@ -1,5 +1,5 @@
 -- A text cut at a byte, and the words of the first form put together and taken apart.
-use Rattle.std.proofs.Common.{◌≡◌, ◌≢◌, ℕ, suc, ◌+◌, ◌<◌, length, get_or, append_assoc, Bool, true, false, cond, eqb, List, [], ◌∷◌, ◌++◌, Option, Some, None, refl, sym, ◌∙◌, ap, arith}
+use Rattle.std.proofs.Common.{◌≡◌, ◌≢◌, ℕ, suc, ◌<◌, length, get_or, append_assoc, Bool, true, false, cond, List, [], ◌∷◌, ◌++◌, Option, Some, None, refl, sym, ◌∙◌, ap, arith}
 use Rattle.std.specs.Prelude.{◌==◌, ◌&&◌, ◌||◌, not, codes}
 use Rattle.std.specs.List.{list_all, list_any}
 use Rattle.std.proofs.lemmas.Bool.{false≢true}
@@ -7,7 +7,7 @@ use Rattle.std.proofs.lemmas.Bool.Decides.{nat_tests}
 use Rattle.std.proofs.lemmas.Str.Pattern.{IsSplitOnceResult, split_parts}
 use Rattle.std.specs.Prelude.{MatchOption, IfSome}
 use denote.Ref.{Bor}
-use Rattle.fk_run.specs.Cut.{Two, Three, onto_front, cut, from_first, from_second, lone_front, with_name, three}
+use Rattle.fk_run.specs.Cut.{Three, onto_front, cut, from_first, from_second, lone_front, with_name, three}
 use Rattle.fk_run.specs.FirstForm.{is_blank, is_word, is_path_word, is_letter_or_digit, is_client_name, form_text, one_create, Means}
 use Rattle.fk_script.specs.declared.deployment.Deployment.{Deployment}
 use Rattle.std.specs.Str.{IsUtf8}

@@ -2,9 +2,7 @@
 use Rattle.std.specs.Prelude.{◌≡◌, ℕ, ◌==◌, nat_le, Bool, true, false, ◌&&◌, ◌||◌, not, List, [], ◌∷◌, ◌++◌, codes, length}
 use Rattle.std.specs.List.{list_all, list_any}
 use Rattle.std.specs.Str.{IsUtf8, bytes_eq}
-use Rattle.fk_script.specs.declared.command.Command.{Command}
 use Rattle.fk_script.specs.declared.command.Command.TheVariants as command
-use Rattle.fk_script.specs.declared.deployment.Block.{Block}
 use Rattle.fk_script.specs.declared.deployment.Deployment.{Deployment}
 
 -- the space and the line feed
