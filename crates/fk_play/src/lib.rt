@@ -3,13 +3,13 @@
 #![tactic(auto)]
 
 mod client;
+mod drain;
 mod engine;
 mod follower;
 mod leader;
 mod message;
-mod play;
 mod row;
 mod running;
 mod table;
 
-pub use play::play;
+pub use drain::play;

@@ -1,6 +1,6 @@
 use Rattle.std.proofs.Common.{◌-◌, length}
 use Rattle.fk_play.proofs.Playing.{Playing}
-use Rattle.fk_play.proofs.play.play.Given as goal
+use Rattle.fk_play.proofs.drain.play.Given as goal
 
 abbrev pub invariant-draining : goal.invariant-draining
 invariant-draining l = Playing l.deployment l.engine

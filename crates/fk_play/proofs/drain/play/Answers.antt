@@ -1,6 +1,6 @@
 use Rattle.std.proofs.Common.{refl, sym, arith}
 use Rattle.fk_play.proofs.Playing.{starts_playing, goes_on_playing, playing_built, playing_short, playing_longer, playing_done, took, took_none}
-use Rattle.fk_play.proofs.play.play.Goals as goal
+use Rattle.fk_play.proofs.drain.play.Goals as goal
 
 pub draining-init : goal.draining-init
 draining-init c =
