@@ -31,8 +31,8 @@ fn play(tree: &mut Tree, request: &Request) -> Result<Reply, CheckFault>
     requires { IsPlain request.now }
 {
     tree.check(1, request)?;
-    let applied = tree.fill(1, 11, 1, 1, request)?;
-    Ok(tree.apply(&applied)?)
+    let applied = tree.fill(1, 11, 1, 1, &request.copy()?)?.copy()?;
+    Ok(tree.apply(&applied)?.copy()?)
 }
 
 /// The new version, or the number of the code, else 0.

@@ -132,7 +132,7 @@ impl Tree {
         node_in(self.rows.as_slice(), path)
     }
 
-    // the code of the first check that fails
+    // the code of the first check that fails, behind that of the session
     fn code_of(&self, request: &Request) -> Result<Option<Code>, NoMemory>
         requires { IsPlain request.now }
         ensures { IfOk result (λ c. at_place 0 c ≡ check_open (look self.now) 0 request.now) }
