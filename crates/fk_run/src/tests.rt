@@ -61,3 +61,61 @@ fn refuses_other_forms(rt: HostRuntime) -> Result<(), Fail> {
     }
     Ok(())
 }
+
+/// The 21 entries of one create.
+const ONE_CREATE: &str = "\
+> clock 11\n\
+. clock 11\n\
+> client a\n\
+. a send 1 1\n\
+> deliver a\n\
+. 1 follower a 1\n\
+> step 1\n\
+. 1 session new\n\
+> step 1\n\
+. 1 lock / ok\n\
+> step 1\n\
+. 1 lock /x ok\n\
+> step 1\n\
+. 1 push 1\n\
+> step 1\n\
+. 1 commit 1 ok\n\
+> step 1\n\
+. 1 ack ok\n\
+> deliver leader\n\
+. 2 leader 1\n\
+> step 2\n\
+. 2 commit 1 miss settled 1\n\
+> step 2\n\
+. 2 pending 1 yes\n\
+> step 2\n\
+. 2 sweep 1 ok 0\n\
+> step 2\n\
+. 2 put 1 / ok\n\
+> step 2\n\
+. 2 put 1 /x ok\n\
+> step 2\n\
+. 2 publish 1 ok\n\
++ 1 11 a 1 create - /x =hi\n\
+> step 2\n\
+. 2 reply a 1\n\
+> step 2\n\
+. 2 done 1 ok\n\
+> step 2\n\
+. 2 ack ok\n\
+> client a\n\
+. a take done 1 1\n\
+> client a\n\
+. a look 1 1 ok\n\
+< a 1 create ok @1 /x\n\
+";
+
+#[test]
+fn runs_one_create(rt: HostRuntime) -> Result<(), Fail> {
+    let form = b"client a\ncreate /x hi\n".as_slice();
+    assert_eq!(rt;
+        status(rt.alloc(), &[], form, &[], &[], ONE_CREATE.as_bytes())?,
+        0
+    );
+    Ok(())
+}
