@@ -1,5 +1,5 @@
 -- The history of a deployment whose one client creates one node right under the root.
-use Rattle.std.proofs.Common.{◌≡◌, ℕ, Bool, true, false, List, [], ◌∷◌, Option, Some, None, refl}
+use Rattle.std.proofs.Common.{◌≡◌, ℕ, false, List, [], ◌∷◌, Some, None, refl}
 use Rattle.std.specs.Cmp.{tied_itself}
 use Rattle.std.specs.Cmp.Lexicographic.{slice_cmp}
 use Rattle.std.specs.Ordering.{nat_cmp}
@@ -20,7 +20,7 @@ use Rattle.fk_print.specs.declared.op.Op.{Op}
 use Rattle.fk_print.specs.declared.op.Op.TheVariants as op
 use Rattle.fk_play.specs.Built.{create_plan}
 use Rattle.fk_spec.specs.Plan.{Plan}
-use Rattle.fk_spec.specs.Next.{next_entry, IsHistory}
+use Rattle.fk_spec.specs.Next.{next_entry}
 use Rattle.fk_spec.specs.Schedule.{next_of_drain}
 
 -- the request: data at a path of one name

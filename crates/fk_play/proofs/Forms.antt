@@ -1,10 +1,10 @@
 -- Deployments that are not of the form that runs.
-use Rattle.std.proofs.Common.{◌≡◌, ◌<◌, ◌≤◌, ℕ, Bool, true, false, ◌&&◌, List, [], ◌∷◌, length, get_or, refl, sym, ◌∙◌, ap, arith}
+use Rattle.std.proofs.Common.{◌≡◌, ◌<◌, ◌≤◌, Bool, true, false, ◌&&◌, List, [], ◌∷◌, length, get_or, refl, sym, arith}
 use Rattle.fk_script.specs.declared.command.Command.{Command}
 use Rattle.fk_script.specs.declared.deployment.Block.{Block}
 use Rattle.fk_script.specs.declared.deployment.Deployment.{Deployment}
 use Rattle.fk_spec.specs.Plan.{Ask, all_asks, asks_of}
-use Rattle.fk_play.specs.Built.{is_built, is_built_ask, is_empty}
+use Rattle.fk_play.specs.Built.{is_built, is_built_ask}
 
 and-false : (b : Bool) → (b && false) ≡ false
 and-false true = refl

@@ -1,14 +1,13 @@
 -- That history is lawful, scheduled and answered.
-use Rattle.std.proofs.Common.{◌≡◌, ℕ, Bool, true, false, ◌||◌, List, [], ◌∷◌, Option, Some, None, refl, sym, ◌∙◌, ap}
-use Rattle.std.specs.FinMap.{get, insert, empty, get-insert, get-empty}
+use Rattle.std.proofs.Common.{◌≡◌, ℕ, Bool, true, false, ◌||◌, List, [], ◌∷◌, Some, None, refl, sym, ◌∙◌}
+use Rattle.std.specs.FinMap.{get, empty, get-insert, get-empty}
 use Rattle.std.proofs.lemmas.Cmp.{nat_list_cmp_total, lists_total}
 use Rattle.std.proofs.lemmas.Bool.{false≢true}
 use Rattle.fk_base.specs.Path.{Name, PathNames, path_cmp}
 use Rattle.fk_tree.specs.Check.{check}
-use Rattle.fk_tree.specs.Tree.{Bare, root_node, start_tree}
+use Rattle.fk_tree.specs.Tree.{root_node, start_tree}
 use Rattle.fk_tree.specs.View.{look}
 use Rattle.fk_print.specs.declared.entry.Entry.{Entry}
-use Rattle.fk_print.specs.declared.event.Event.TheVariants as event
 use Rattle.fk_print.specs.declared.line.Line.{Line}
 use Rattle.fk_print.specs.declared.line.Line.TheVariants as line
 use Rattle.fk_spec.specs.Plan.{Plan}

@@ -1,17 +1,15 @@
 -- The engine on such a deployment: its states, one after another, and the history that it keeps.
-use Rattle.std.proofs.Common.{◌≡◌, ℕ, suc, length, Bool, true, false, List, [], ◌∷◌, Option, Some, None, refl}
+use Rattle.std.proofs.Common.{◌≡◌, ℕ, suc, length, List, [], ◌∷◌, Some, None, refl}
 use Rattle.fk_base.specs.Path.{Name}
 use Rattle.fk_print.specs.declared.event.Event.{Event}
 use Rattle.fk_print.specs.declared.event.Event.TheVariants as event
-use Rattle.fk_play.specs.Engine.{State, Takes, done_of, event_step, next_event, start_state, clock_step}
+use Rattle.fk_play.specs.Engine.{State, done_of, event_step, next_event, start_state, clock_step}
 use Rattle.fk_play.specs.Message.{edits_of}
 use Rattle.fk_play.specs.Table.{committed, finished, fresh_row, granted, row_of, start_records, view_of_row}
 use Rattle.fk_play.specs.declared.message.Create.{Create}
 use Rattle.fk_play.specs.declared.message.Done.{Done}
 use Rattle.fk_play.specs.declared.message.Push.{Push}
 use Rattle.fk_play.specs.declared.message.Sent.{Sent}
-use Rattle.fk_play.specs.declared.message.Stamp.{Stamp}
-use Rattle.fk_play.specs.declared.message.Waiting.{Waiting}
 use Rattle.fk_play.specs.declared.row.View.{View}
 use Rattle.fk_play.specs.declared.running.Running.{Running}
 use Rattle.fk_play.specs.declared.running.Stage.TheVariants as stage

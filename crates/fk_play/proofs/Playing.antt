@@ -1,13 +1,12 @@
 -- A deployment of the form that runs, while its drain is played.
-use Rattle.std.proofs.Common.{◌≡◌, ◌<◌, ◌≤◌, ◌+◌, ℕ, zero, suc, Bool, true, false, List, [], ◌∷◌, Option, Some, None, length, refl, sym, ◌∙◌, ap, subst, arith}
+use Rattle.std.proofs.Common.{◌≡◌, ◌<◌, ℕ, suc, Bool, true, false, List, [], ◌∷◌, Option, Some, None, length, refl, sym, subst, arith}
 use Rattle.std.proofs.lemmas.Bool.{false≢true}
 use Rattle.fk_base.specs.Path.{Name, PathNames}
-use Rattle.fk_print.specs.declared.entry.Entry.{Entry}
 use Rattle.fk_print.specs.declared.event.Event.{Event}
 use Rattle.fk_script.specs.declared.deployment.Deployment.{Deployment}
 use Rattle.fk_spec.specs.Plan.{Plan, item_after, plan_of}
 use Rattle.fk_spec.specs.Promises.{IsLawful}
-use Rattle.fk_spec.specs.Schedule.{AllAnswered, Drains, TakesTurns}
+use Rattle.fk_spec.specs.Schedule.{AllAnswered, Drains}
 use Rattle.fk_play.specs.Built.{CreatesOne, create_plan, has_one_name}
 use Rattle.fk_play.specs.Engine.{State, Takes, clock_step, event_step, next_event, start_state}
 use Rattle.fk_play.specs.Run.{IsRunOf}

@@ -1,12 +1,11 @@
 -- Which deployments run so far: one client that creates one node right under the root.
 use Rattle.std.specs.Prelude.{◌≡◌, ℕ, ◌==◌, Bool, true, false, ◌&&◌, List, [], ◌∷◌, Option, Some, None}
 use Rattle.fk_base.specs.Path.{PathNames}
-use Rattle.fk_tree.specs.declared.request.Request.{Request}
 use Rattle.fk_tree.specs.declared.request.Request.TheVariants as request
 use Rattle.fk_print.specs.declared.line.Verb.TheVariants as verb
 use Rattle.fk_script.specs.declared.deployment.Deployment.{Deployment}
 use Rattle.fk_script.specs.declared.deployment.Turn.{Turn}
-use Rattle.fk_spec.specs.Plan.{Plan, Ask, Want, Unfit, Writes, Reads, plan_of}
+use Rattle.fk_spec.specs.Plan.{Plan, Ask, Want, Writes, plan_of}
 
 abbrev pub has_one_name : PathNames → Bool
 has_one_name (n ∷ []) = true

@@ -1,10 +1,9 @@
 -- The table: node records with their timed locks, and the record of the one session.
-use Rattle.std.specs.Prelude.{◌≡◌, ℕ, ◌+◌, ◌-◌, ◌==◌, nat_lt, Bool, true, false, if◌then◌else◌, ◌&&◌, ◌||◌, not, List, [], ◌∷◌, ◌++◌, Option, Some, None}
+use Rattle.std.specs.Prelude.{ℕ, ◌+◌, ◌-◌, ◌==◌, nat_lt, Bool, true, false, if◌then◌else◌, ◌&&◌, ◌||◌, not, List, [], ◌∷◌, ◌++◌, Some, None}
 use Rattle.fk_base.specs.Path.{PathNames, same_path}
 use Rattle.fk_tree.specs.Edit.{edit}
 use Rattle.fk_tree.specs.Tree.{root_node, with_names}
 use Rattle.fk_tree.specs.declared.edit.Edit.{Edit}
-use Rattle.fk_tree.specs.declared.node.Node.{Node}
 use Rattle.fk_play.specs.declared.row.Row.{Row}
 use Rattle.fk_play.specs.declared.row.View.{View}
 

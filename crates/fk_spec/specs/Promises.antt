@@ -1,12 +1,10 @@
 -- What a history promises, said on its public lines.
-use Rattle.std.specs.Prelude.{◌≡◌, ◌≢◌, ◌↔◌, ℕ, ◌-◌, ◌<◌, ◌≤◌, ◌==◌, Bool, true, false, if◌then◌else◌, List, [], ◌∷◌, Option, Some, None}
-use Rattle.fk_base.specs.declared.code.Code.{Code}
+use Rattle.std.specs.Prelude.{◌≡◌, ℕ, ◌-◌, ◌<◌, ◌≤◌, ◌==◌, Bool, true, false, if◌then◌else◌, List, [], ◌∷◌, Option, Some, None}
 use Rattle.fk_base.specs.declared.code.Code.TheVariants as code
 use Rattle.fk_tree.specs.Apply.{reply_of}
 use Rattle.fk_tree.specs.Check.{Refusal, check}
 use Rattle.fk_tree.specs.View.{look}
 use Rattle.fk_tree.specs.declared.applied.Applied.{Applied}
-use Rattle.fk_tree.specs.declared.request.Request.{Request}
 use Rattle.fk_print.specs.declared.entry.Entry.{Entry}
 use Rattle.fk_print.specs.declared.line.Line.{Line}
 use Rattle.fk_print.specs.declared.line.Line.TheVariants as line
@@ -16,12 +14,12 @@ use Rattle.fk_print.specs.declared.line.Shown.TheVariants as shown
 use Rattle.fk_print.specs.declared.op.Op.{Op}
 use Rattle.fk_print.specs.declared.op.Op.TheVariants as op
 use Rattle.fk_script.specs.declared.deployment.Deployment.{Deployment}
-use Rattle.fk_spec.specs.Plan.{Plan, Ask, Want, Unfit, Writes, Reads, asked, plan_of}
+use Rattle.fk_spec.specs.Plan.{Plan, Ask, Want, Unfit, Writes, asked, plan_of}
 use Rattle.fk_spec.specs.Shown.{seen_by}
 use Rattle.fk_spec.specs.Start.{or_else}
 use Rattle.fk_spec.specs.Client.{shown_reply}
 use Rattle.fk_spec.specs.Next.{next_entry, printed_of}
-use Rattle.fk_spec.specs.Published.{txs_in, txs_of, published_tree, published_as}
+use Rattle.fk_spec.specs.Published.{txs_of, published_tree, published_as}
 
 -- Each request once. -----------------------------------------------------------------------------
 

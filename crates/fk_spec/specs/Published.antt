@@ -1,5 +1,5 @@
 -- The tree that the transaction lines drive.
-use Rattle.std.specs.Prelude.{ℕ, ◌-◌, ◌==◌, nat_le, Bool, true, false, if◌then◌else◌, ◌&&◌, List, [], ◌∷◌, ◌++◌, Option, Some, None}
+use Rattle.std.specs.Prelude.{ℕ, ◌-◌, nat_le, if◌then◌else◌, List, [], ◌∷◌, Option, Some, None}
 use Rattle.fk_base.specs.Path.{PathNames}
 use Rattle.fk_tree.specs.Apply.{apply}
 use Rattle.fk_tree.specs.Fill.{fill}
