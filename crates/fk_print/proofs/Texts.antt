@@ -1,18 +1,13 @@
--- Words written after words.
+-- Names behind names, and plain bytes.
 use Rattle.std.proofs.Common.{◌≡◌, ℕ, ◌<◌, Bool, true, false, ◌&&◌, refl, sym, ◌∙◌, ap, List, [], ◌∷◌, ◌++◌, codes, append_assoc, arith}
 use Rattle.std.proofs.lemmas.Bool.Decides.{nat_tests}
 use Rattle.std.proofs.lemmas.Str.{IsUtf8-from_ascii}
 use Rattle.std.proofs.lemmas.Str.Ascii.{IsAscii-nil, IsAscii-cons}
 use Rattle.std.specs.Str.{IsAscii, IsUtf8}
 use Rattle.std.specs.List.{list_all}
-use Rattle.std.proofs.lemmas.Grind.{flat_map-append}
 use Rattle.std.proofs.lemmas.List.{append-nil}
 use Rattle.fk_base.specs.Path.{Name, names_text}
-use Rattle.fk_print.specs.Words.{Text, spaced, is_plain}
-
--- further words go to the end
-pub spaced_more : (text : Text) (ws vs : List Text) → (text ++ spaced ws) ++ spaced vs ≡ text ++ spaced (ws ++ vs)
-spaced_more text ws vs = append_assoc text (spaced ws) (spaced vs) ∙ ap (λ r. text ++ r) (sym (flat_map-append (λ word. codes " " ++ word) ws vs))
+use Rattle.fk_print.specs.Words.{is_plain}
 
 -- a further name goes to the end
 pub names_text_more : (names : List Name) (name : Name) → names_text (names ++ name ∷ []) ≡ names_text names ++ (codes "/" ++ name)

@@ -4,3 +4,4 @@ pub mod LineText
 pub mod OpText
 pub mod Pieces
 pub mod Words
+pub mod Worked

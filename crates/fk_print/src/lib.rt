@@ -16,6 +16,9 @@ mod op;
 mod op_text;
 mod piece;
 mod reply_text;
+#[cfg(test)]
+mod tests;
+mod worked;
 
 pub use entry::Entry;
 pub use entry_text::render_entry;
@@ -24,3 +27,4 @@ pub use history::History;
 pub use line::{Act, Line, Printed, Shown, Verb};
 pub use lines::Lines;
 pub use op::{Op, Word};
+pub use worked::worked_lines;
