@@ -3,10 +3,17 @@ use Rattle.std.proofs.Common.{◌≡◌, ◌<◌, ◌+◌, ℕ, zero, suc, List,
 use Rattle.fk_print.specs.declared.event.Event.{Event}
 use Rattle.fk_spec.specs.Plan.{item_after}
 use Rattle.fk_play.specs.Engine.{State, event_step, next_event}
-use Rattle.fk_play.proofs.Played.{Chain, Counted}
 
-none_some : {A B : Type 0} (x : A) → ◌≡◌ {A = Option A} None (Some x) → B
-none_some x e = absurd (cc)
+-- each state's next event leads to the next state, and the last has none
+abbrev pub Chain : List State → Type 0
+Chain [] = Unit {0}
+Chain (s ∷ []) = next_event s ≡ None
+Chain (s ∷ t ∷ ss) = ((e : Event) × (next_event s ≡ Some e) × (event_step e s ≡ Some t)) × Chain (t ∷ ss)
+
+-- the first has so many entries, and each further one more
+abbrev pub Counted : ℕ → List State → Type 0
+Counted k [] = Unit {0}
+Counted k (s ∷ ss) = (length s.past ≡ k) × Counted (suc k) ss
 
 -- the event that a state names leads to the next state
 pub advances : (ss : List State) → Chain ss → (k : ℕ) (s t : State) (e : Event) → item_after ss k ≡ Some s → next_event s ≡ Some e → event_step e s ≡ Some t → item_after ss (suc k) ≡ Some t

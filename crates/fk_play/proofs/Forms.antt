@@ -4,21 +4,21 @@ use Rattle.fk_script.specs.declared.command.Command.{Command}
 use Rattle.fk_script.specs.declared.deployment.Block.{Block}
 use Rattle.fk_script.specs.declared.deployment.Deployment.{Deployment}
 use Rattle.fk_spec.specs.Plan.{Ask, all_asks, asks_of}
-use Rattle.fk_play.specs.Built.{is_built, is_built_ask}
+use Rattle.fk_play.specs.Built.{is_built, is_one_ask}
 
 and-false : (b : Bool) → (b && false) ≡ false
 and-false true = refl
 and-false false = refl
 
-unfit : (d : Deployment) → is_built_ask (all_asks d.clients) ≡ false → is_built d ≡ false
+unfit : (d : Deployment) → is_one_ask (all_asks d.clients) ≡ false → is_built d ≡ false
 unfit d e = rw e (and-false _)
 
-many_asks : (xs : List Ask) → 2 ≤ length xs → is_built_ask (xs ∷ []) ≡ false
+many_asks : (xs : List Ask) → 2 ≤ length xs → is_one_ask (xs ∷ []) ≡ false
 many_asks [] l = absurd (omega arith)
 many_asks (a ∷ []) l = absurd (omega arith)
 many_asks (a ∷ b ∷ xs) l = refl
 
-many_lists : (xs : List Ask) (ys : List Ask) (zs : List (List Ask)) → is_built_ask (xs ∷ ys ∷ zs) ≡ false
+many_lists : (xs : List Ask) (ys : List Ask) (zs : List (List Ask)) → is_one_ask (xs ∷ ys ∷ zs) ≡ false
 many_lists [] ys zs = refl
 many_lists (a ∷ []) ys zs = refl
 many_lists (a ∷ b ∷ xs) ys zs = refl
@@ -27,12 +27,12 @@ length-asks : (cs : List Command) → length (asks_of cs) ≡ length cs
 length-asks [] = refl
 length-asks (c ∷ cs) = omega (arith, length-asks cs)
 
-many_blocks : (bs : List Block) → 2 ≤ length bs → is_built_ask (all_asks bs) ≡ false
+many_blocks : (bs : List Block) → 2 ≤ length bs → is_one_ask (all_asks bs) ≡ false
 many_blocks [] l = absurd (omega arith)
 many_blocks (b ∷ []) l = absurd (omega arith)
 many_blocks (b ∷ c ∷ bs) l = many_lists (asks_of b.commands) (asks_of c.commands) (all_asks bs)
 
-one_block : (bs : List Block) (b : Block) → length bs < 2 → 1 ≤ length bs → b ≡ get_or bs 0 b → 2 ≤ length b.commands → is_built_ask (all_asks bs) ≡ false
+one_block : (bs : List Block) (b : Block) → length bs < 2 → 1 ≤ length bs → b ≡ get_or bs 0 b → 2 ≤ length b.commands → is_one_ask (all_asks bs) ≡ false
 one_block [] b l m e n = absurd (omega arith)
 one_block (x ∷ []) b l m e n = rw (sym e) (many_asks (asks_of b.commands) (omega (arith, length-asks b.commands)))
 one_block (x ∷ y ∷ bs) b l m e n = absurd (omega arith)

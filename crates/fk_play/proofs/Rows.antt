@@ -3,7 +3,7 @@ use Rattle.std.proofs.Common.{◌≡◌, ◌<◌, ◌≤◌, ◌+◌, ◌==◌, 
 use Rattle.fk_base.specs.Path.{PathNames, same_path}
 use Rattle.fk_play.specs.Table.{fresh_row, number_place, row_of, row_place, without, without_row}
 use Rattle.fk_play.specs.Engine.{settled_by, waiting_place}
-use Rattle.fk_play.specs.declared.message.Done.{Done}
+use Rattle.fk_play.specs.declared.message.Told.{Told}
 use Rattle.fk_play.specs.declared.message.Waiting.{Waiting}
 use Rattle.fk_play.specs.declared.row.Row.{Row}
 
@@ -60,18 +60,18 @@ numbers_whole n (m ∷ ms) l = step (m == n) l (numbers_whole n ms)
     step false l i = ap (λ xs. m ∷ xs) (i (omega arith))
 
 -- the command that is settled
-pub settled_there : (d : Done) (ws : List Waiting) (x : Waiting) → waiting_place d.k ws < length ws → set ws (waiting_place d.k ws) (record (get_or ws (waiting_place d.k ws) x) { result = Some d }) ≡ settled_by d ws
+pub settled_there : (d : Told) (ws : List Waiting) (x : Waiting) → waiting_place d.k ws < length ws → set ws (waiting_place d.k ws) (record (get_or ws (waiting_place d.k ws) x) { result = Some d.outcome }) ≡ settled_by d ws
 settled_there d [] x l = absurd (omega arith)
 settled_there d (w ∷ ws) x l = step (w.k == d.k) l (settled_there d ws x)
   where
-    step : (b : Bool) → cond b 0 (waiting_place d.k ws + 1) < length (w ∷ ws) → (waiting_place d.k ws < length ws → set ws (waiting_place d.k ws) (record (get_or ws (waiting_place d.k ws) x) { result = Some d }) ≡ settled_by d ws) → set (w ∷ ws) (cond b 0 (waiting_place d.k ws + 1)) (record (get_or (w ∷ ws) (cond b 0 (waiting_place d.k ws + 1)) x) { result = Some d }) ≡ cond b (record w { result = Some d } ∷ ws) (w ∷ settled_by d ws)
+    step : (b : Bool) → cond b 0 (waiting_place d.k ws + 1) < length (w ∷ ws) → (waiting_place d.k ws < length ws → set ws (waiting_place d.k ws) (record (get_or ws (waiting_place d.k ws) x) { result = Some d.outcome }) ≡ settled_by d ws) → set (w ∷ ws) (cond b 0 (waiting_place d.k ws + 1)) (record (get_or (w ∷ ws) (cond b 0 (waiting_place d.k ws + 1)) x) { result = Some d.outcome }) ≡ cond b (record w { result = Some d.outcome } ∷ ws) (w ∷ settled_by d ws)
     step true l i = refl
     step false l i = rw add-one (ap (λ xs. w ∷ xs) (i (omega arith)))
 
-pub settled_nowhere : (d : Done) (ws : List Waiting) → length ws ≤ waiting_place d.k ws → settled_by d ws ≡ ws
+pub settled_nowhere : (d : Told) (ws : List Waiting) → length ws ≤ waiting_place d.k ws → settled_by d ws ≡ ws
 settled_nowhere d [] l = refl
 settled_nowhere d (w ∷ ws) l = step (w.k == d.k) l (settled_nowhere d ws)
   where
-    step : (b : Bool) → length (w ∷ ws) ≤ cond b 0 (waiting_place d.k ws + 1) → (length ws ≤ waiting_place d.k ws → settled_by d ws ≡ ws) → cond b (record w { result = Some d } ∷ ws) (w ∷ settled_by d ws) ≡ w ∷ ws
+    step : (b : Bool) → length (w ∷ ws) ≤ cond b 0 (waiting_place d.k ws + 1) → (length ws ≤ waiting_place d.k ws → settled_by d ws ≡ ws) → cond b (record w { result = Some d.outcome } ∷ ws) (w ∷ settled_by d ws) ≡ w ∷ ws
     step true l i = absurd (omega arith)
     step false l i = ap (λ xs. w ∷ xs) (i (omega arith))

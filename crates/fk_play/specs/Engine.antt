@@ -1,6 +1,8 @@
 -- What the engine does at each event, where that is built: its services as plain lists, one client.
 use Rattle.std.specs.Prelude.{◌≡◌, ℕ, ◌+◌, ◌-◌, ◌^◌, ◌==◌, nat_lt, Bool, true, false, if◌then◌else◌, ◌&&◌, List, [], ◌∷◌, ◌++◌, Option, Some, None, min, max, drop, length, is_none}
 use Rattle.fk_base.specs.Path.{PathNames, same_path}
+use Rattle.fk_base.specs.declared.code.Code.{Code}
+use Rattle.fk_base.specs.declared.code.Code.TheVariants as code
 use Rattle.fk_tree.specs.Locks.{with_parent}
 use Rattle.fk_tree.specs.declared.node.Node.{Node}
 use Rattle.fk_print.specs.declared.entry.Entry.{Entry}
@@ -9,17 +11,23 @@ use Rattle.fk_print.specs.declared.event.Event.TheVariants as event
 use Rattle.fk_print.specs.declared.line.Act.TheVariants as act
 use Rattle.fk_print.specs.declared.line.Line.{Line}
 use Rattle.fk_print.specs.declared.line.Line.TheVariants as line
+use Rattle.fk_print.specs.declared.line.Shown.{Shown}
 use Rattle.fk_print.specs.declared.line.Shown.TheVariants as shown
 use Rattle.fk_print.specs.declared.line.Verb.TheVariants as verb
 use Rattle.fk_print.specs.declared.op.Op.{Op}
 use Rattle.fk_print.specs.declared.op.Op.TheVariants as op
 use Rattle.fk_play.specs.Message.{edits_of}
-use Rattle.fk_play.specs.Table.{Records, committed, finished, granted, is_among, is_free, may_commit, row_of, start_records, view_of_row}
+use Rattle.fk_play.specs.Table.{Records, committed, finished, granted, is_among, is_free, may_commit, refused, row_of, start_records, view_of_row}
 use Rattle.fk_play.specs.declared.message.Create.{Create}
-use Rattle.fk_play.specs.declared.message.Done.{Done}
+use Rattle.fk_play.specs.declared.message.Outcome.{Outcome}
+use Rattle.fk_play.specs.declared.message.Outcome.TheVariants as outcome
 use Rattle.fk_play.specs.declared.message.Push.{Push}
 use Rattle.fk_play.specs.declared.message.Sent.{Sent}
+use Rattle.fk_play.specs.declared.message.Refused.{Refused}
 use Rattle.fk_play.specs.declared.message.Stamp.{Stamp}
+use Rattle.fk_play.specs.declared.message.Told.{Told}
+use Rattle.fk_play.specs.declared.message.Wanted.{Wanted}
+use Rattle.fk_play.specs.declared.message.Wanted.TheVariants as wanted
 use Rattle.fk_play.specs.declared.message.Waiting.{Waiting}
 use Rattle.fk_play.specs.declared.row.View.{View}
 use Rattle.fk_play.specs.declared.running.Running.{Running}
@@ -36,12 +44,12 @@ pub record State : Type 0 where
   pub lane : List Sent
   pub pushes : ℕ
   pub leads : List Push
-  pub inbox : List Done
+  pub inbox : List Told
   pub stamps : List Stamp
   pub mark : ℕ
   pub swept : ℕ
   pub running : Option Running
-  pub commands : List Create
+  pub commands : List Wanted
   pub begun : ℕ
   pub unanswered : List Waiting
   pub seen : ℕ
@@ -62,7 +70,7 @@ clock_step moment s = enter (event.Clock moment) (op.Clock (max moment s.clock))
 
 -- a function starts
 abbrev pub begun_as : ℕ → ℕ → Stage → Running
-begun_as number message at = record { number = number; message = message; stage = at; tx = 0; moment = 0; paths = []; put = 0; views = [] }
+begun_as number message at = record { number = number; message = message; stage = at; last = 0; refusal = None; tx = 0; moment = 0; paths = []; put = 0; views = [] }
 
 abbrev pub starts : Event → Op → Running → State → State
 starts e o r s = enter e o [] (record s { started = r.number; running = Some r })
@@ -88,32 +96,46 @@ goes_on o ls r s = enter (event.Step r.number) o ls (record s { running = Some r
 -- The follower on message m. ----------------------------------------------------------------------
 
 abbrev pub session_step : Running → Sent → State → Option State
-session_step r m s = if s.table.settled + 1 == m.k then Some (goes_on (op.SessionNew r.number) [] (record r { stage = stage.Lock; paths = with_parent m.create.path }) s) else None
-
-abbrev pub may_have_children : Option Node → Bool
-may_have_children None = false
-may_have_children (Some n) = n.owner == 0
+session_step r m s = if s.table.settled + 1 == m.k then Some (goes_on (op.SessionNew r.number) [] (record r { stage = stage.Lock; last = s.table.last; paths = with_parent m.create.path }) s) else None
 
 -- a create passes where its parent is there without an owner, and its path is free
-abbrev pub passes : List View → Bool
-passes (parent ∷ own ∷ []) = may_have_children parent.node && is_none own.node
-passes _ = false
+abbrev pub refused_under : Option Node → Option Node → Option Code
+refused_under None own = Some code.NoNode
+refused_under (Some n) own = if is_none own then (if n.owner == 0 then None else Some code.NoChildrenForEphemerals) else Some code.NodeExists
 
-abbrev pub after_lock : List PathNames → List View → Option Stage
-after_lock (p ∷ ps) vs = Some stage.Lock
-after_lock [] vs = if passes vs then Some stage.Push else None
+-- the code of its refusal, where it doesn't; the root is always there
+abbrev pub refused_by : List View → Option Code
+refused_by (parent ∷ own ∷ []) = refused_under parent.node own.node
+refused_by _ = Some code.NodeExists
 
-abbrev pub locked_at : Running → List View → PathNames → State → Option Stage → Option State
-locked_at r vs p s None = None
-locked_at r vs p s (Some at) = Some (goes_on (op.LockOk r.number p) [] (record r { stage = at; views = vs }) s)
+abbrev pub greatest_last : List View → ℕ
+greatest_last [] = 0
+greatest_last (v ∷ vs) = max v.last (greatest_last vs)
 
-abbrev pub lock_first : Running → State → List PathNames → Option State
-lock_first r s [] = None
-lock_first r s (p ∷ ps) =
-    if is_free s.clock s.lock (row_of p s.table.rows) then locked_at r (r.views ++ view_of_row (row_of p s.table.rows) ∷ []) p (record s { table = granted p r.number s.clock s.table }) (after_lock ps (r.views ++ view_of_row (row_of p s.table.rows) ∷ [])) else None
+-- a refusal's number: the greatest of what the client had seen, and the last commits of the session and
+-- of the records
+abbrev pub refusal_number : Running → Sent → List View → ℕ
+refusal_number r m vs = max m.seen (max r.last (greatest_last vs))
 
-abbrev pub lock_step : Running → State → Option State
-lock_step r s = lock_first r s (drop (length r.views) r.paths)
+abbrev pub decided : Running → ℕ → Option Code → Running
+decided r at None = record r { stage = stage.Push }
+decided r at (Some c) = record r { stage = stage.Refuse; refusal = Some (record { code = c; at = at }) }
+
+-- before the next lock, or decided after the last one
+abbrev pub after_lock : Running → Sent → List PathNames → List View → Running
+after_lock r m (p ∷ ps) vs = record r { views = vs }
+after_lock r m [] vs = decided (record r { views = vs }) (refusal_number r m vs) (refused_by vs)
+
+abbrev pub locked_at : PathNames → Running → State → State
+locked_at p r s = goes_on (op.LockOk r.number p) [] r s
+
+abbrev pub lock_first : Running → Sent → State → List PathNames → Option State
+lock_first r m s [] = None
+lock_first r m s (p ∷ ps) =
+    if is_free s.clock s.lock (row_of p s.table.rows) then Some (locked_at p (after_lock r m ps (r.views ++ view_of_row (row_of p s.table.rows) ∷ [])) (record s { table = granted p r.number s.clock s.table })) else None
+
+abbrev pub lock_step : Running → Sent → State → Option State
+lock_step r m s = lock_first r m s (drop (length r.views) r.paths)
 
 abbrev pub push_of : Running → Sent → State → Push
 push_of r m s = record { tx = up s.pushes; function = r.number; k = m.k; moment = s.clock; create = m.create; paths = r.paths }
@@ -123,6 +145,20 @@ push_step r m s = Some (goes_on (op.Push r.number (up s.pushes)) [] (record r { 
 
 abbrev pub commit_step : Running → Sent → State → Option State
 commit_step r m s = if may_commit m.k r.number r.paths s.table then Some (goes_on (op.CommitOk r.number r.tx) [] (record r { stage = stage.Ack }) (record s { table = committed m.k r.tx r.moment (edits_of m.create) r.paths s.table })) else None
+
+abbrev pub refuse_with : Running → Sent → State → Option Refused → Option State
+refuse_with r m s None = None
+refuse_with r m s (Some x) = if may_commit m.k r.number r.paths s.table then Some (goes_on (op.RefuseOk r.number x.code 0 x.at) [] (record r { stage = stage.Tell }) (record s { table = refused m.k r.paths s.table })) else None
+
+abbrev pub refuse_step : Running → Sent → State → Option State
+refuse_step r m s = refuse_with r m s r.refusal
+
+abbrev pub tell_with : Running → Sent → State → Option Refused → Option State
+tell_with r m s None = None
+tell_with r m s (Some x) = Some (goes_on (op.Reply r.number 1 m.k) [] (record r { stage = stage.Ack }) (record s { inbox = s.inbox ++ record { k = m.k; outcome = outcome.Refused x } ∷ [] }))
+
+abbrev pub tell_step : Running → Sent → State → Option State
+tell_step r m s = tell_with r m s r.refusal
 
 abbrev pub ends : Op → Running → State → State
 ends o r s = enter (event.Step r.number) o [] (record s { running = None })
@@ -136,9 +172,11 @@ ack_step r s = Some (ends (op.AckOk r.number) r (record s { lane = without_sent 
 
 abbrev pub follower_at : Stage → Running → Sent → State → Option State
 follower_at stage.Session r m s = session_step r m s
-follower_at stage.Lock r m s = lock_step r s
+follower_at stage.Lock r m s = lock_step r m s
 follower_at stage.Push r m s = push_step r m s
 follower_at stage.Commit r m s = commit_step r m s
+follower_at stage.Refuse r m s = refuse_step r m s
+follower_at stage.Tell r m s = tell_step r m s
 follower_at stage.Ack r m s = ack_step r s
 follower_at _ r m s = None
 
@@ -166,9 +204,12 @@ abbrev pub after_put : List PathNames → Stage
 after_put [] = stage.Publish
 after_put (p ∷ ps) = stage.Put
 
+abbrev pub stamped : PathNames → ℕ → State → State
+stamped p tx s = record s { stamps = record { path = p; tx = tx } ∷ s.stamps }
+
 abbrev pub put_first : Running → Push → State → List PathNames → Option State
 put_first r x s [] = None
-put_first r x s (p ∷ ps) = if nat_lt (stamp_at p s.stamps) x.tx then Some (goes_on (op.PutOk r.number x.tx p) [] (record r { stage = after_put ps; put = r.put + 1 }) (record s { stamps = record { path = p; tx = x.tx } ∷ s.stamps })) else None
+put_first r x s (p ∷ ps) = if nat_lt (stamp_at p s.stamps) x.tx then Some (goes_on (op.PutOk r.number x.tx p) [] (record r { stage = after_put ps; put = r.put + 1 }) (stamped p x.tx s)) else None
 
 abbrev pub put_step : Running → Push → State → Option State
 put_step r x s = put_first r x s (drop r.put r.paths)
@@ -179,8 +220,8 @@ line_of x = line.Tx (record { tx = x.tx; moment = x.moment; session = 1; k = x.k
 abbrev pub publish_step : Running → Push → State → Option State
 publish_step r x s = if nat_lt s.mark x.tx then Some (goes_on (op.PublishOk r.number x.tx) (line_of x ∷ []) (record r { stage = stage.Reply }) (record s { mark = x.tx })) else None
 
-abbrev pub done_of : Push → Done
-done_of x = record { k = x.k; tx = x.tx; path = x.create.path }
+abbrev pub done_of : Push → Told
+done_of x = record { k = x.k; outcome = outcome.Done x.tx x.create.path }
 
 abbrev pub reply_step : Running → Push → State → Option State
 reply_step r x s = Some (goes_on (op.Reply r.number 1 x.k) [] (record r { stage = stage.Done }) (record s { inbox = s.inbox ++ done_of x ∷ [] }))
@@ -216,6 +257,8 @@ is_follower stage.Session = true
 is_follower stage.Lock = true
 is_follower stage.Push = true
 is_follower stage.Commit = true
+is_follower stage.Refuse = true
+is_follower stage.Tell = true
 is_follower stage.Ack = true
 is_follower _ = false
 
@@ -228,23 +271,35 @@ step_running n s (Some r) = if r.number == n then function_step r (record s { ru
 
 -- The client. -------------------------------------------------------------------------------------
 
-abbrev pub settled_by : Done → List Waiting → List Waiting
+abbrev pub settled_by : Told → List Waiting → List Waiting
 settled_by d [] = []
-settled_by d (w ∷ ws) = if w.k == d.k then record w { result = Some d } ∷ ws else w ∷ settled_by d ws
+settled_by d (w ∷ ws) = if w.k == d.k then record w { result = Some d.outcome } ∷ ws else w ∷ settled_by d ws
 
 abbrev pub waiting_place : ℕ → List Waiting → ℕ
 waiting_place k [] = 0
 waiting_place k (w ∷ ws) = if w.k == k then 0 else waiting_place k ws + 1
 
-abbrev pub take_step : Done → List Done → State → State
-take_step d ds s = enter (event.Client 1) (op.TakeDone 1 d.k d.tx) [] (record s { inbox = ds; unanswered = settled_by d s.unanswered })
+abbrev pub take_op : ℕ → Outcome → Op
+take_op k (outcome.Done tx path) = op.TakeDone 1 k tx
+take_op k (outcome.Refused x) = op.TakeRefused 1 k
 
-abbrev pub reply_of : ℕ → Done → Line
-reply_of command d = line.Reply 1 command verb.Create (shown.Created d.tx d.path)
+abbrev pub take_step : Told → List Told → State → State
+take_step d ds s = enter (event.Client 1) (take_op d.k d.outcome) [] (record s { inbox = ds; unanswered = settled_by d s.unanswered })
 
-abbrev pub look_with : ℕ → List Waiting → State → Option Done → Option State
+abbrev pub shown_of : Outcome → Shown
+shown_of (outcome.Done tx path) = shown.Created tx path
+shown_of (outcome.Refused x) = shown.Refused x.code x.at 0
+
+abbrev pub number_of : Outcome → ℕ
+number_of (outcome.Done tx path) = tx
+number_of (outcome.Refused x) = x.at
+
+abbrev pub reply_of : ℕ → Shown → Line
+reply_of command what = line.Reply 1 command verb.Create what
+
+abbrev pub look_with : ℕ → List Waiting → State → Option Outcome → Option State
 look_with command ws s None = None
-look_with command ws s (Some d) = if nat_lt s.mark d.tx then None else Some (enter (event.Client 1) (op.LookOk 1 command s.mark) (reply_of command d ∷ []) (record s { unanswered = ws; seen = max d.tx s.seen }))
+look_with command ws s (Some d) = if nat_lt s.mark (number_of d) then None else Some (enter (event.Client 1) (op.LookOk 1 command s.mark) (reply_of command (shown_of d) ∷ []) (record s { unanswered = ws; seen = max (number_of d) s.seen }))
 
 abbrev pub sent_with : State → Create → Sent
 sent_with s c = record { k = up s.sends; seen = s.seen; create = c }
@@ -252,15 +307,23 @@ sent_with s c = record { k = up s.sends; seen = s.seen; create = c }
 abbrev pub waits_for : State → Waiting
 waits_for s = record { command = up32 s.begun; k = up s.sends; result = None }
 
-abbrev pub send_from : State → List Create → Option State
+abbrev pub sent : State → Create → List Wanted → State
+sent s c cs = enter (event.Client 1) (op.Send 1 (up32 s.begun) (up s.sends)) [] (record s { sends = up s.sends; lane = s.lane ++ sent_with s c ∷ []; commands = cs; begun = up32 s.begun; unanswered = s.unanswered ++ waits_for s ∷ [] })
+
+-- the client itself answers a command that nothing can come of
+abbrev pub refused_here : State → List Wanted → State
+refused_here s cs = enter (event.Client 1) (op.Local 1 (up32 s.begun)) (reply_of (up32 s.begun) (shown.Plain code.BadArguments) ∷ []) (record s { commands = cs; begun = up32 s.begun })
+
+abbrev pub send_from : State → List Wanted → Option State
 send_from s [] = None
-send_from s (c ∷ cs) = Some (enter (event.Client 1) (op.Send 1 (up32 s.begun) (up s.sends)) [] (record s { sends = up s.sends; lane = s.lane ++ sent_with s c ∷ []; commands = cs; begun = up32 s.begun; unanswered = s.unanswered ++ waits_for s ∷ [] }))
+send_from s (wanted.Create c ∷ cs) = Some (sent s c cs)
+send_from s (wanted.Unfit ∷ cs) = Some (refused_here s cs)
 
 abbrev pub look_or_send : State → List Waiting → Option State
 look_or_send s [] = send_from s s.commands
 look_or_send s (w ∷ ws) = look_with w.command ws s w.result
 
-abbrev pub take_or : State → List Done → Option State
+abbrev pub take_or : State → List Told → Option State
 take_or s [] = look_or_send s s.unanswered
 take_or s (d ∷ ds) = Some (take_step d ds s)
 
@@ -300,7 +363,7 @@ abbrev pub next_event : State → Option Event
 next_event s = next_from s s.running
 
 -- the engine as it starts
-abbrev pub start_state : ℕ → List Create → State
+abbrev pub start_state : ℕ → List Wanted → State
 start_state lock commands = record { lock = lock; clock = 0; started = 0; table = start_records; sends = 0; lane = []; pushes = 0; leads = []; inbox = []; stamps = []; mark = 0; swept = 0; running = None; commands = commands; begun = 0; unanswered = []; seen = 0; past = [] }
 
 -- one call of the engine: where the operation is built, the state after it

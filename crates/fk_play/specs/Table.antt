@@ -79,6 +79,10 @@ may_commit k function paths t = (t.settled + 1 == k) && are_held_by function pat
 abbrev pub committed : ℕ → ℕ → ℕ → List Edit → List PathNames → Records → Records
 committed k tx moment edits paths t = record t { rows = with_released paths (with_edits tx moment edits t.rows); settled = k; last = tx; pending = t.pending ++ tx ∷ [] }
 
+-- a refusal settles its request and releases the locks
+abbrev pub refused : ℕ → List PathNames → Records → Records
+refused k paths t = record t { rows = with_released paths t.rows; settled = k }
+
 abbrev pub is_among : ℕ → List ℕ → Bool
 is_among n [] = false
 is_among n (m ∷ ms) = (m == n) || is_among n ms

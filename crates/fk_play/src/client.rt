@@ -1,11 +1,11 @@
 //! The operations of the client, and what comes next.
 
 ghost use Rattle.std.specs.Prelude.{◌≡◌, ◌≢◌, not, ◌<◌, ◌≤◌, [], ◌∷◌, ◌++◌, length, is_none, Some, None, IfOk, OnOk};
-ghost use Rattle.fk_play.specs.Engine.{Takes, client_step, event_step, look_or_send, next_event, reply_of, send_from, settled_by, step_running, take_or, waiting_place};
+ghost use Rattle.fk_play.specs.Engine.{Takes, client_step, event_step, look_or_send, next_event, number_of, refused_here, reply_of, send_from, sent, settled_by, shown_of, step_running, take_op, take_or, waiting_place};
 
 use crate::engine::Engine;
-use crate::message::{Done, Sent, Waiting};
-use fk_base::NoMemory;
+use crate::message::{Create, Outcome, Sent, Told, Waiting, Wanted};
+use fk_base::{Code, NoMemory};
 use fk_print::{Event, Line, Op, Shown, Verb};
 
 impl Engine {
@@ -13,13 +13,9 @@ impl Engine {
         requires { self.old.inbox ≢ [] }
         ensures { IfOk result (λ b. Takes b (take_or self.old self.old.inbox) self.new) }
     {
-        let done = self.inbox.remove(0);
-        let op = Op::TakeDone {
-            session: 1,
-            k: done.k,
-            tx: done.tx,
-        };
-        settle(&mut self.unanswered, done);
+        let told = self.inbox.remove(0);
+        let op = take_op(told.k, &told.outcome);
+        settle(&mut self.unanswered, told);
         self.enter(Event::Client(1), op)?;
         Ok(true)
     }
@@ -30,10 +26,11 @@ impl Engine {
     {
         let waiting = self.unanswered.remove(0);
         let command = waiting.command;
-        let Some(done) = waiting.result else {
+        let Some(outcome) = waiting.result else {
             return Ok(false);
         };
-        if self.mark < done.tx {
+        let number = number_of(&outcome);
+        if self.mark < number {
             return Ok(false);
         }
         let op = Op::LookOk {
@@ -41,18 +38,14 @@ impl Engine {
             command,
             mark: self.mark,
         };
-        self.seen = done.tx.max(self.seen);
-        self.enter_with(Event::Client(1), op, reply_line(command, done))?;
+        self.seen = number.max(self.seen);
+        self.enter_with(Event::Client(1), op, reply_line(command, shown_of(outcome)))?;
         Ok(true)
     }
 
-    fn send(&mut self) -> Result<bool, NoMemory>
-        ensures { IfOk result (λ b. Takes b (send_from self.old self.old.commands) self.new) }
+    fn send(&mut self, create: Create) -> Result<(), NoMemory>
+        ensures { OnOk result (self.new ≡ sent self.old create self.old.commands) }
     {
-        if self.commands.is_empty() {
-            return Ok(false);
-        }
-        let create = self.commands.remove(0);
         let k = self.sends.saturating_add(1);
         let command = self.begun.saturating_add(1);
         self.lane.push(Sent {
@@ -67,14 +60,37 @@ impl Engine {
         })?;
         self.sends = k;
         self.begun = command;
-        self.enter(
-            Event::Client(1),
-            Op::Send {
-                session: 1,
-                command,
-                k,
-            },
-        )?;
+        let op = Op::Send {
+            session: 1,
+            command,
+            k,
+        };
+        self.enter(Event::Client(1), op)
+    }
+
+    fn refuse_here(&mut self) -> Result<(), NoMemory>
+        ensures { OnOk result (self.new ≡ refused_here self.old self.old.commands) }
+    {
+        let command = self.begun.saturating_add(1);
+        self.begun = command;
+        let op = Op::Local {
+            session: 1,
+            command,
+        };
+        let line = reply_line(command, Shown::Plain(Code::BadArguments));
+        self.enter_with(Event::Client(1), op, line)
+    }
+
+    fn begin(&mut self) -> Result<bool, NoMemory>
+        ensures { IfOk result (λ b. Takes b (send_from self.old self.old.commands) self.new) }
+    {
+        if self.commands.is_empty() {
+            return Ok(false);
+        }
+        match self.commands.remove(0) {
+            Wanted::Create(create) => self.send(create)?,
+            Wanted::Unfit => self.refuse_here()?,
+        }
         Ok(true)
     }
 
@@ -87,7 +103,7 @@ impl Engine {
         if !self.unanswered.is_empty() {
             return self.look();
         }
-        self.send()
+        self.begin()
     }
 
     /// Whether the client has something to do that is built.
@@ -99,7 +115,7 @@ impl Engine {
         }
         match self.unanswered.first() {
             Some(waiting) => match &waiting.result {
-                Some(done) => done.tx <= self.mark,
+                Some(outcome) => number_of(outcome) <= self.mark,
                 None => false,
             },
             None => !self.commands.is_empty(),
@@ -193,25 +209,58 @@ fn place_of(waiting: &[Waiting], k: u64) -> usize
 
 /// The command that was sent under this number knows what came of it.
 #[tactic(auto, using(crate::proofs::Rows::settled_there, crate::proofs::Rows::settled_nowhere))]
-fn settle(waiting: &mut Vec<Waiting>, done: Done)
-    ensures { waiting.new.items ≡ settled_by done waiting.old.items }
+fn settle(waiting: &mut Vec<Waiting>, told: Told)
+    ensures { waiting.new.items ≡ settled_by told waiting.old.items }
 {
-    let place = place_of(waiting.as_slice(), done.k);
+    let place = place_of(waiting.as_slice(), told.k);
     if place < waiting.len() {
-        waiting[place].result = Some(done);
+        waiting[place].result = Some(told.outcome);
     }
 }
 
-fn reply_line(command: u32, done: Done) -> Line
-    ensures { result ≡ reply_of command done }
+fn take_op(k: u64, outcome: &Outcome) -> Op
+    ensures { result ≡ take_op k outcome.now }
+{
+    match outcome {
+        Outcome::Done { tx, .. } => Op::TakeDone {
+            session: 1,
+            k,
+            tx: *tx,
+        },
+        Outcome::Refused(_) => Op::TakeRefused { session: 1, k },
+    }
+}
+
+/// The number of the tree that a reply speaks of.
+fn number_of(outcome: &Outcome) -> u64
+    ensures { result ≡ number_of outcome.now }
+{
+    match outcome {
+        Outcome::Done { tx, .. } => *tx,
+        Outcome::Refused(refused) => refused.at,
+    }
+}
+
+fn shown_of(outcome: Outcome) -> Shown
+    ensures { result ≡ shown_of outcome }
+{
+    match outcome {
+        Outcome::Done { tx, path } => Shown::Created { tx, path },
+        Outcome::Refused(refused) => Shown::Refused {
+            code: refused.code,
+            at: refused.at,
+            place: 0,
+        },
+    }
+}
+
+fn reply_line(command: u32, shown: Shown) -> Line
+    ensures { result ≡ reply_of command shown }
 {
     Line::Reply {
         session: 1,
         command,
         verb: Verb::Create,
-        shown: Shown::Created {
-            tx: done.tx,
-            path: done.path,
-        },
+        shown,
     }
 }

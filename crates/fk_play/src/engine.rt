@@ -1,7 +1,7 @@
 ghost use Rattle.std.specs.Prelude.{◌≡◌, [], ◌∷◌, ◌++◌, Some, None, IfOk, OnOk, MatchOption};
 ghost use Rattle.fk_play.specs.Engine.{Takes, begun_as, clock_step, deliver_step, enter, lead_step, starts, start_state, up};
 
-use crate::message::{Create, Done, Push, Sent, Stamp, Views, Waiting};
+use crate::message::{Push, Sent, Stamp, Told, Views, Waiting, Wanted};
 use crate::running::{Running, Stage};
 use crate::table::Table;
 use fk_base::{NoMemory, Paths};
@@ -21,12 +21,12 @@ pub(crate) struct Engine {
     pub lane: Vec<Sent>,
     pub pushes: u64,
     pub leads: Vec<Push>,
-    pub inbox: Vec<Done>,
+    pub inbox: Vec<Told>,
     pub stamps: Vec<Stamp>,
     pub mark: u64,
     pub swept: u64,
     pub running: Option<Running>,
-    pub commands: Vec<Create>,
+    pub commands: Vec<Wanted>,
     pub begun: u32,
     pub unanswered: Vec<Waiting>,
     pub seen: u64,
@@ -43,7 +43,7 @@ impl Model for Engine {
 
 impl Engine {
     /// An engine whose client has these commands.
-    pub(crate) fn new(alloc: Global, lock: u64, commands: Vec<Create>) -> Result<Engine, NoMemory>
+    pub(crate) fn new(alloc: Global, lock: u64, commands: Vec<Wanted>) -> Result<Engine, NoMemory>
         ensures { IfOk result (λ e. e ≡ start_state lock commands.items) }
     {
         let table = Table::new(alloc)?;
@@ -110,6 +110,8 @@ impl Engine {
             number,
             message,
             stage,
+            last: 0,
+            refusal: None,
             tx: 0,
             moment: 0,
             paths: Paths::new(self.alloc),

@@ -1,16 +1,17 @@
 //! The operations of a follower.
 
 ghost use Rattle.std.specs.Prelude.{◌≡◌, [], ◌∷◌, ◌++◌, List, Some, None, IfOk, OnOk};
-ghost use Rattle.fk_play.specs.Engine.{Takes, ack_step, after_lock, commit_step, ends, follower_on, goes_on, lock_step, passes, push_step, session_step};
+ghost use Rattle.fk_play.specs.Engine.{Takes, ack_step, commit_step, decided, ends, follower_on, goes_on, greatest_last, lock_step, push_step, refusal_number, refuse_step, refused_by, refused_under, session_step, tell_step};
 ghost use Rattle.fk_play.specs.declared.message.Sent.{Sent};
 
 use crate::engine::Engine;
-use crate::message::{Push, Sent};
+use crate::message::{Outcome, Push, Refused, Sent, Told};
 use crate::row::View;
 use crate::running::{Running, Stage};
 use crate::table::is_next;
-use fk_base::{NoMemory, Path};
+use fk_base::{Code, NoMemory};
 use fk_print::{Event, Op};
+use fk_tree::Node;
 
 impl Engine {
     /// The function made this operation and stands somewhere else.
@@ -38,13 +39,14 @@ impl Engine {
         }
         running.paths = message.create.paths(self.alloc)?;
         running.stage = Stage::Lock;
+        running.last = self.table.last();
         let function = running.number;
         self.go_on(Op::SessionNew { function }, running)?;
         Ok(true)
     }
 
-    fn lock(&mut self, mut running: Running) -> Result<bool, NoMemory>
-        ensures { IfOk result (λ b. Takes b (lock_step running self.old) self.new) }
+    fn lock(&mut self, mut running: Running, message: &Sent) -> Result<bool, NoMemory>
+        ensures { IfOk result (λ b. Takes b (lock_step running message.now self.old) self.new) }
     {
         let at = running.views.len();
         let Some(path) = running.paths.as_slice().get(at) else {
@@ -58,11 +60,9 @@ impl Engine {
             return Ok(false);
         };
         running.views.push(view)?;
-        let rest = &running.paths.as_slice()[at + 1..];
-        let Some(stage) = next_stage(rest, running.views.as_slice()) else {
-            return Ok(false);
-        };
-        running.stage = stage;
+        if running.paths.as_slice()[at + 1..].is_empty() {
+            decide(&mut running, message);
+        }
         let function = running.number;
         self.go_on(Op::LockOk { function, path }, running)?;
         Ok(true)
@@ -110,6 +110,50 @@ impl Engine {
         Ok(true)
     }
 
+    fn refuse(&mut self, mut running: Running, message: &Sent) -> Result<bool, NoMemory>
+        ensures { IfOk result (λ b. Takes b (refuse_step running message.now self.old) self.new) }
+    {
+        let Some(refusal) = running.refusal else {
+            return Ok(false);
+        };
+        let function = running.number;
+        if !self
+            .table
+            .refuse(message.k, function, running.paths.as_slice())?
+        {
+            return Ok(false);
+        }
+        running.stage = Stage::Tell;
+        let op = Op::RefuseOk {
+            function,
+            code: refusal.code,
+            place: 0,
+            at: refusal.at,
+        };
+        self.go_on(op, running)?;
+        Ok(true)
+    }
+
+    fn tell(&mut self, mut running: Running, message: &Sent) -> Result<bool, NoMemory>
+        ensures { IfOk result (λ b. Takes b (tell_step running message.now self.old) self.new) }
+    {
+        let Some(refusal) = running.refusal else {
+            return Ok(false);
+        };
+        self.inbox.push(Told {
+            k: message.k,
+            outcome: Outcome::Refused(refusal),
+        })?;
+        running.stage = Stage::Ack;
+        let op = Op::Reply {
+            function: running.number,
+            session: 1,
+            k: message.k,
+        };
+        self.go_on(op, running)?;
+        Ok(true)
+    }
+
     fn ack(&mut self, running: Running) -> Result<bool, NoMemory>
         ensures { IfOk result (λ b. Takes b (ack_step running self.old) self.new) }
     {
@@ -136,9 +180,11 @@ impl Engine {
         let message = head.copy()?;
         match running.stage {
             Stage::Session => self.session(running, &message),
-            Stage::Lock => self.lock(running),
+            Stage::Lock => self.lock(running, &message),
             Stage::Push => self.push(running, &message),
             Stage::Commit => self.commit(running, &message),
+            Stage::Refuse => self.refuse(running, &message),
+            Stage::Tell => self.tell(running, &message),
             Stage::Ack => self.ack(running),
             Stage::Finish => Ok(false),
             Stage::Pending => Ok(false),
@@ -152,30 +198,52 @@ impl Engine {
     }
 }
 
-/// Where a follower stands after a grant: before the next lock, or before the push where all are
-/// granted and the create passes.
-fn next_stage(rest: &[Path], views: &[View]) -> Option<Stage>
-    ensures { result ≡ after_lock rest.now views.now }
+/// Before the push where the create passes, else before its refusal.
+fn decide(running: &mut Running, message: &Sent)
+    ensures { running.new ≡ decided running.old (refusal_number running.old message.now running.old.views) (refused_by running.old.views) }
 {
-    if !rest.is_empty() {
-        return Some(Stage::Lock);
+    match refused_by(running.views.as_slice()) {
+        None => running.stage = Stage::Push,
+        Some(code) => {
+            let newest = greatest_last(running.views.as_slice());
+            let at = message.seen.max(running.last.max(newest));
+            running.stage = Stage::Refuse;
+            running.refusal = Some(Refused { code, at });
+        }
     }
-    if can_create(views) {
-        return Some(Stage::Push);
+}
+
+/// The code of a create's refusal on the granted records, its parent's and its own.
+fn refused_by(views: &[View]) -> Option<Code>
+    ensures { result ≡ refused_by views.now }
+{
+    match views {
+        [parent, own] => refused_under(&parent.node, &own.node),
+        _ => Some(Code::NodeExists),
+    }
+}
+
+fn refused_under(parent: &Option<Node>, own: &Option<Node>) -> Option<Code>
+    ensures { result ≡ refused_under parent.now own.now }
+{
+    let Some(node) = parent else {
+        return Some(Code::NoNode);
+    };
+    if own.is_some() {
+        return Some(Code::NodeExists);
+    }
+    if node.owner != 0 {
+        return Some(Code::NoChildrenForEphemerals);
     }
     None
 }
 
-/// Whether the parent is there without an owner, and the path is free.
-fn can_create(views: &[View]) -> bool
-    ensures { result ≡ passes views.now }
+/// The last commit among those of the granted records.
+fn greatest_last(views: &[View]) -> u64
+    ensures { result ≡ greatest_last views.now }
 {
     match views {
-        [parent, own] => match (&parent.node, &own.node) {
-            (Some(node), None) => node.owner == 0,
-            (Some(_), Some(_)) => false,
-            (None, _) => false,
-        },
-        _ => false,
+        [] => 0,
+        [first, rest @ ..] => first.last.max(greatest_last(rest)),
     }
 }

@@ -1,10 +1,10 @@
 //! The operations of a leader.
 
 ghost use Rattle.std.specs.Prelude.{◌≡◌, ◌<◌, [], ◌∷◌, ◌++◌, Some, None, IfOk, OnOk};
-ghost use Rattle.fk_play.specs.Engine.{Takes, after_put, done_of, done_step, finish_step, goes_on, leader_on, line_of, pending_step, publish_step, put_step, remove_step, reply_step, stamp_at, sweep_step};
+ghost use Rattle.fk_play.specs.Engine.{Takes, after_put, done_of, done_step, finish_step, goes_on, leader_on, line_of, pending_step, publish_step, put_step, remove_step, reply_step, stamp_at, stamped, sweep_step};
 
 use crate::engine::Engine;
-use crate::message::{Done, Push, Stamp};
+use crate::message::{Outcome, Push, Stamp, Told};
 use crate::running::{Running, Stage};
 use crate::table::is_next;
 use fk_base::{NoMemory, Path};
@@ -60,6 +60,18 @@ impl Engine {
         Ok(true)
     }
 
+    /// The path's user record has this stamp from now on.
+    fn stamp(&mut self, path: &Path, tx: u64) -> Result<(), NoMemory>
+        ensures { OnOk result (self.new ≡ stamped path.now tx self.old) }
+    {
+        let stamp = Stamp {
+            path: path.copy()?,
+            tx,
+        };
+        self.stamps.insert(0, stamp)?;
+        Ok(())
+    }
+
     fn put(&mut self, mut running: Running, push: &Push) -> Result<bool, NoMemory>
         ensures { IfOk result (λ b. Takes b (put_step running push.now self.old) self.new) }
     {
@@ -72,13 +84,7 @@ impl Engine {
         if stamp_of(self.stamps.as_slice(), &path) >= tx {
             return Ok(false);
         }
-        self.stamps.insert(
-            0,
-            Stamp {
-                path: path.copy()?,
-                tx,
-            },
-        )?;
+        self.stamp(&path, tx)?;
         running.stage = stage_after(&running.paths.as_slice()[at + 1..]);
         running.put = at + 1;
         let function = running.number;
@@ -105,10 +111,12 @@ impl Engine {
     fn reply(&mut self, mut running: Running, push: &Push) -> Result<bool, NoMemory>
         ensures { IfOk result (λ b. Takes b (reply_step running push.now self.old) self.new) }
     {
-        self.inbox.push(Done {
+        self.inbox.push(Told {
             k: push.k,
-            tx: push.tx,
-            path: push.create.path.copy()?,
+            outcome: Outcome::Done {
+                tx: push.tx,
+                path: push.create.path.copy()?,
+            },
         })?;
         running.stage = Stage::Done;
         let op = Op::Reply {
@@ -160,6 +168,8 @@ impl Engine {
             Stage::Lock => Ok(false),
             Stage::Push => Ok(false),
             Stage::Commit => Ok(false),
+            Stage::Refuse => Ok(false),
+            Stage::Tell => Ok(false),
             Stage::Ack => Ok(false),
             Stage::Finish => self.finish(running, &push),
             Stage::Pending => self.pending(running, &push),

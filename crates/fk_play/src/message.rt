@@ -4,7 +4,7 @@ ghost use Rattle.fk_base.specs.Path.{last_name};
 ghost use Rattle.fk_tree.specs.Locks.{with_parent};
 
 use crate::row::View;
-use fk_base::{Bytes, NoMemory, Path, Paths, Text};
+use fk_base::{Bytes, Code, NoMemory, Path, Paths, Text};
 use fk_tree::{Edit, Edits, What};
 use std::alloc::Global;
 use std::marker::Model;
@@ -35,12 +35,32 @@ pub(crate) struct Push {
     pub paths: Paths,
 }
 
-/// A message of the client's inbox: its request is done, as a transaction, with this final path.
+/// A refusal: a code, and the number of the tree at which it holds.
+#[derive(Clone, Copy, Debug, PartialEq, Eq)]
+pub(crate) struct Refused {
+    pub code: Code,
+    pub at: u64,
+}
+
+/// What came of a request: it is done, as a transaction, with this final path, or it is refused.
 #[derive(Drop)]
-pub(crate) struct Done {
+pub(crate) enum Outcome {
+    Done { tx: u64, path: Path },
+    Refused(Refused),
+}
+
+/// A message of the client's inbox: what came of its request.
+#[derive(Drop)]
+pub(crate) struct Told {
     pub k: u64,
-    pub tx: u64,
-    pub path: Path,
+    pub outcome: Outcome,
+}
+
+/// A command of the client: a create, or one that nothing can come of.
+#[derive(Drop)]
+pub(crate) enum Wanted {
+    Create(Create),
+    Unfit,
 }
 
 /// A command that was sent and isn't answered, with what came of it once that is known.
@@ -48,7 +68,7 @@ pub(crate) struct Done {
 pub(crate) struct Waiting {
     pub command: u32,
     pub k: u64,
-    pub result: Option<Done>,
+    pub result: Option<Outcome>,
 }
 
 /// A user record's stamp.

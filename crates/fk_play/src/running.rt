@@ -1,16 +1,18 @@
 ghost use Rattle.std.specs.Prelude.{◌≡◌};
 ghost use Rattle.fk_play.specs.Engine.{is_follower};
 
-use crate::message::Views;
+use crate::message::{Refused, Views};
 use fk_base::Paths;
 
-/// The operation before which a function stands. The first five are a follower's.
+/// The operation before which a function stands. The first seven are a follower's.
 #[derive(Clone, Copy, Debug, PartialEq, Eq)]
 pub(crate) enum Stage {
     Session,
     Lock,
     Push,
     Commit,
+    Refuse,
+    Tell,
     Ack,
     Finish,
     Pending,
@@ -28,7 +30,8 @@ impl Stage {
         ensures { result ≡ is_follower self }
     {
         match self {
-            Stage::Session | Stage::Lock | Stage::Push | Stage::Commit | Stage::Ack => true,
+            Stage::Session | Stage::Lock | Stage::Push | Stage::Commit => true,
+            Stage::Refuse | Stage::Tell | Stage::Ack => true,
             Stage::Finish | Stage::Pending | Stage::Sweep | Stage::Put => false,
             Stage::Publish | Stage::Reply | Stage::Done | Stage::Remove => false,
         }
@@ -42,6 +45,10 @@ pub(crate) struct Running {
     /// The message's number in its lane.
     pub message: u64,
     pub stage: Stage,
+    /// The last commit of its session when it began.
+    pub last: u64,
+    /// The refusal that it decided on.
+    pub refusal: Option<Refused>,
     /// The push that it made or works on.
     pub tx: u64,
     /// The push's moment.

@@ -1,6 +1,6 @@
 ghost use Rattle.std.specs.Prelude.{◌≡◌, ◌+◌, ◌≤◌, ◌<◌, ◌^◌, ◌==◌, true, false, [], ◌∷◌, ◌++◌, length, Some, None, IfOk, OnOk, MatchOption, MatchBool};
 ghost use Rattle.fk_tree.specs.Tree.{root_node, with_names};
-ghost use Rattle.fk_play.specs.Table.{committed, finished, granted, is_among, is_free, may_commit, number_place, row_of, start_records, view_of_row, with_edits, with_released, with_row, without, without_row};
+ghost use Rattle.fk_play.specs.Table.{committed, finished, granted, is_among, is_free, may_commit, number_place, refused, row_of, start_records, view_of_row, with_edits, with_released, with_row, without, without_row};
 
 use crate::row::{Row, View, holds_all, place_of};
 use fk_base::{Bytes, Names, NoMemory, Path};
@@ -144,6 +144,12 @@ impl Table {
         Ok(())
     }
 
+    fn may_settle(&self, k: u64, function: u64, paths: &[Path]) -> bool
+        ensures { result ≡ may_commit k function paths.now self.now }
+    {
+        is_next(self.settled, k) && holds_all(self.rows.as_slice(), paths, function)
+    }
+
     /// Commits a push: makes its edits, releases its locks and settles its request, where the request
     /// is the next to settle and the push's function still holds every lock.
     pub(crate) fn commit(
@@ -157,7 +163,7 @@ impl Table {
     ) -> Result<bool, NoMemory>
         ensures { IfOk result (λ b. MatchBool b ((may_commit k function paths.now self.old ≡ true) × (self.new ≡ committed k tx moment edits.now paths.now self.old)) (may_commit k function paths.now self.old ≡ false)) }
     {
-        if !is_next(self.settled, k) || !holds_all(self.rows.as_slice(), paths, function) {
+        if !self.may_settle(k, function, paths) {
             return Ok(false);
         }
         self.edit_rows(edits, tx, moment)?;
@@ -165,6 +171,18 @@ impl Table {
         self.pending.push(tx)?;
         self.settled = k;
         self.last = tx;
+        Ok(true)
+    }
+
+    /// Refuses a request under the same conditions: settles it and releases its locks.
+    pub(crate) fn refuse(&mut self, k: u64, function: u64, paths: &[Path]) -> Result<bool, NoMemory>
+        ensures { IfOk result (λ b. MatchBool b ((may_commit k function paths.now self.old ≡ true) × (self.new ≡ refused k paths.now self.old)) (may_commit k function paths.now self.old ≡ false)) }
+    {
+        if !self.may_settle(k, function, paths) {
+            return Ok(false);
+        }
+        self.release_rows(paths)?;
+        self.settled = k;
         Ok(true)
     }
 

@@ -3,9 +3,8 @@
 
 use fk_base::{StdSink, StdSource};
 use fk_run::fk_run;
-use std::env;
-use std::io;
 use std::process::ExitCode;
+use std::{env, io};
 
 /// The words behind the program's name.
 fn words(rt: &HostRuntime) -> io::Result<Vec<String>> {

@@ -1,13 +1,7 @@
--- The history of a deployment whose one client creates one node right under the root.
-use Rattle.std.proofs.Common.{◌≡◌, ℕ, false, List, [], ◌∷◌, Some, None, refl}
-use Rattle.std.specs.Cmp.{tied_itself}
-use Rattle.std.specs.Cmp.Lexicographic.{slice_cmp}
-use Rattle.std.specs.Ordering.{nat_cmp}
-use Rattle.std.specs.declared.cmp.Ordering.TheVariants.{Equal}
-use Rattle.std.proofs.lemmas.Cmp.{nat_list_cmp_total}
-use Rattle.fk_base.specs.Path.{Name}
-use Rattle.fk_tree.specs.declared.request.Request.{Request}
-use Rattle.fk_tree.specs.declared.request.Request.TheVariants as request
+-- The history of a create right under the root.
+use Rattle.std.proofs.Common.{◌≡◌, ℕ, false, List, [], ◌∷◌, Option, Some, None, refl}
+use Rattle.fk_base.specs.Path.{Name, PathNames, parent}
+use Rattle.fk_base.specs.declared.code.Code.TheVariants as code
 use Rattle.fk_print.specs.declared.entry.Entry.{Entry}
 use Rattle.fk_print.specs.declared.event.Event.{Event}
 use Rattle.fk_print.specs.declared.event.Event.TheVariants as event
@@ -16,29 +10,19 @@ use Rattle.fk_print.specs.declared.line.Line.{Line}
 use Rattle.fk_print.specs.declared.line.Line.TheVariants as line
 use Rattle.fk_print.specs.declared.line.Shown.TheVariants as shown
 use Rattle.fk_print.specs.declared.line.Verb.TheVariants as verb
-use Rattle.fk_print.specs.declared.op.Op.{Op}
 use Rattle.fk_print.specs.declared.op.Op.TheVariants as op
-use Rattle.fk_play.specs.Built.{create_plan}
-use Rattle.fk_spec.specs.Plan.{Plan}
+use Rattle.fk_play.specs.Built.{create_plan, unfit_plan}
+use Rattle.fk_play.proofs.Entries.{entry}
+use Rattle.fk_play.proofs.Paths.{same, parent_before, child_after, same_paths}
 use Rattle.fk_spec.specs.Next.{next_entry}
+use Rattle.fk_spec.specs.Plan.{Plan}
 use Rattle.fk_spec.specs.Schedule.{next_of_drain}
 
--- the request: data at a path of one name
-abbrev pub create : Name → List ℕ → Request
-create n bytes = request.Create (n ∷ []) bytes false false
-
--- one client with this one command
 abbrev pub plan : ℕ → Name → List ℕ → Plan
 plan beat n bytes = create_plan beat (n ∷ []) bytes
 
 abbrev pub tx_line : Name → List ℕ → Line
 tx_line n bytes = line.Tx (record { tx = 1; moment = 11; session = 1; k = 1; act = act.Create (n ∷ []) bytes false false })
-
-abbrev pub reply_line : Name → Line
-reply_line n = line.Reply 1 1 verb.Create (shown.Created 1 (n ∷ []))
-
-abbrev pub entry : Event → Op → List Line → Entry
-entry e o ls = record { event = e; op = o; lines = ls }
 
 -- the history after so many entries
 abbrev pub after0 : Name → List ℕ → List Entry
@@ -105,11 +89,7 @@ abbrev pub after20 : Name → List ℕ → List Entry
 after20 n bytes = entry (event.Client 1) (op.TakeDone 1 1 1) [] ∷ after19 n bytes
 
 abbrev pub after21 : Name → List ℕ → List Entry
-after21 n bytes = entry (event.Client 1) (op.LookOk 1 1 1) (reply_line n ∷ []) ∷ after20 n bytes
-
--- a name is equal to itself, which the tests of the rules have to find
-pub same : (n : Name) → slice_cmp nat_cmp n n ≡ Equal
-same n = tied_itself nat_list_cmp_total n
+after21 n bytes = entry (event.Client 1) (op.LookOk 1 1 1) (line.Reply 1 1 verb.Create (shown.Created 1 (n ∷ [])) ∷ []) ∷ after20 n bytes
 
 pub follows1 : (beat : ℕ) (n : Name) (bytes : List ℕ) → entry (event.Clock 11) (op.Clock 11) [] ≡ next_entry (plan beat n bytes) (after0 n bytes) (event.Clock 11)
 follows1 beat n bytes = refl
@@ -171,7 +151,7 @@ follows19 beat n bytes = refl
 pub follows20 : (beat : ℕ) (n : Name) (bytes : List ℕ) → entry (event.Client 1) (op.TakeDone 1 1 1) [] ≡ next_entry (plan beat n bytes) (after19 n bytes) (event.Client 1)
 follows20 beat n bytes = refl
 
-pub follows21 : (beat : ℕ) (n : Name) (bytes : List ℕ) → entry (event.Client 1) (op.LookOk 1 1 1) (reply_line n ∷ []) ≡ next_entry (plan beat n bytes) (after20 n bytes) (event.Client 1)
+pub follows21 : (beat : ℕ) (n : Name) (bytes : List ℕ) → entry (event.Client 1) (op.LookOk 1 1 1) (line.Reply 1 1 verb.Create (shown.Created 1 (n ∷ [])) ∷ []) ≡ next_entry (plan beat n bytes) (after20 n bytes) (event.Client 1)
 follows21 beat n bytes = refl
 
 pub drains1 : (beat : ℕ) (n : Name) (bytes : List ℕ) → next_of_drain (plan beat n bytes) (after1 n bytes) ≡ Some (event.Client 1)

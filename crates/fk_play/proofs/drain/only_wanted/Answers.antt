@@ -1,5 +1,5 @@
 use Rattle.fk_play.proofs.Forms.{many_clients, many_commands}
-use Rattle.fk_play.proofs.drain.only_create.Goals as goal
+use Rattle.fk_play.proofs.drain.only_wanted.Goals as goal
 
 pub returns-in-len2-up-as_slice-clause-none : goal.returns-in-len2-up-as_slice-clause-none
 returns-in-len2-up-as_slice-clause-none c =
