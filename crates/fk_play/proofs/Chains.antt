@@ -1,5 +1,5 @@
 -- Going along the states of a chain.
-use Rattle.std.proofs.Common.{◌≡◌, ◌<◌, ◌+◌, ℕ, zero, suc, List, [], ◌∷◌, Option, Some, None, length, ap, arith}
+use Rattle.std.proofs.Common.{◌≡◌, ◌<◌, ◌+◌, ℕ, zero, suc, List, [], ◌∷◌, Some, None, length, ap, arith}
 use Rattle.fk_print.specs.declared.event.Event.{Event}
 use Rattle.fk_spec.specs.Plan.{item_after}
 use Rattle.fk_play.specs.Engine.{State, event_step, next_event}

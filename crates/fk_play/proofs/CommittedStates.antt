@@ -1,23 +1,20 @@
 -- The engine on such a deployment: its states, one after another, and the history that it keeps.
-use Rattle.std.proofs.Common.{◌≡◌, ◌≤◌, ℕ, suc, length, List, [], ◌∷◌, Option, Some, None, refl, lit≤}
-use Rattle.fk_base.specs.Path.{Name, PathNames, parent}
-use Rattle.fk_base.specs.declared.code.Code.TheVariants as code
+use Rattle.std.proofs.Common.{◌≡◌, ◌≤◌, ℕ, length, List, [], ◌∷◌, Some, None, refl, lit≤}
+use Rattle.fk_base.specs.Path.{Name}
 use Rattle.fk_print.specs.declared.event.Event.TheVariants as event
-use Rattle.fk_play.specs.Engine.{State, begun_as, clock_step, done_of, event_step, next_event, start_state}
+use Rattle.fk_play.specs.Engine.{State, begun_as, done_of, event_step, start_state}
 use Rattle.fk_play.specs.Message.{edits_of}
-use Rattle.fk_play.specs.Table.{committed, finished, fresh_row, granted, refused, row_of, start_records, view_of_row}
+use Rattle.fk_play.specs.Table.{committed, finished, fresh_row, granted, row_of, start_records, view_of_row}
 use Rattle.fk_play.specs.declared.message.Create.{Create}
 use Rattle.fk_play.specs.declared.message.Outcome.TheVariants as outcome
 use Rattle.fk_play.specs.declared.message.Push.{Push}
-use Rattle.fk_play.specs.declared.message.Refused.{Refused}
 use Rattle.fk_play.specs.declared.message.Sent.{Sent}
-use Rattle.fk_play.specs.declared.message.Told.{Told}
 use Rattle.fk_play.specs.declared.message.Wanted.TheVariants as wanted
 use Rattle.fk_play.specs.declared.row.View.{View}
 use Rattle.fk_play.specs.declared.running.Running.{Running}
 use Rattle.fk_play.specs.declared.running.Stage.TheVariants as stage
 use Rattle.fk_play.proofs.Chains.{Chain, Counted}
-use Rattle.fk_play.proofs.Paths.{same, parent_before, child_after, same_paths}
+use Rattle.fk_play.proofs.Paths.{same}
 use Rattle.fk_play.proofs.Committed as course
 
 abbrev create : Name → List ℕ → Create
@@ -52,6 +49,7 @@ putting n = record leader { stage = stage.Put; paths = [] ∷ (n ∷ []) ∷ [] 
 
 abbrev put : Name → Running
 put n = record (putting n) { put = 2 }
+
 abbrev pub state1 : Name → List ℕ → State
 state1 n bytes = record (start_state 10 (wanted.Create (create n bytes) ∷ [])) { clock = 11; past = course.after1 n bytes }
 

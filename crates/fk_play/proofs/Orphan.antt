@@ -1,17 +1,14 @@
 -- The history of a create under a parent that is missing.
-use Rattle.std.proofs.Common.{◌≡◌, ℕ, List, [], ◌∷◌, Option, Some, None, refl}
+use Rattle.std.proofs.Common.{◌≡◌, ℕ, List, [], ◌∷◌, Some, None, refl}
 use Rattle.fk_base.specs.Path.{Name, PathNames, parent}
 use Rattle.fk_base.specs.declared.code.Code.TheVariants as code
 use Rattle.fk_print.specs.declared.entry.Entry.{Entry}
-use Rattle.fk_print.specs.declared.event.Event.{Event}
 use Rattle.fk_print.specs.declared.event.Event.TheVariants as event
-use Rattle.fk_print.specs.declared.line.Act.TheVariants as act
-use Rattle.fk_print.specs.declared.line.Line.{Line}
 use Rattle.fk_print.specs.declared.line.Line.TheVariants as line
 use Rattle.fk_print.specs.declared.line.Shown.TheVariants as shown
 use Rattle.fk_print.specs.declared.line.Verb.TheVariants as verb
 use Rattle.fk_print.specs.declared.op.Op.TheVariants as op
-use Rattle.fk_play.specs.Built.{create_plan, unfit_plan}
+use Rattle.fk_play.specs.Built.{create_plan}
 use Rattle.fk_play.proofs.Entries.{entry}
 use Rattle.fk_play.proofs.Paths.{same, parent_before, child_after, same_paths}
 use Rattle.fk_spec.specs.Next.{next_entry}

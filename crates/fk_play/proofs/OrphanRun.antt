@@ -1,12 +1,11 @@
 -- That history is lawful, scheduled and answered.
-use Rattle.std.proofs.Common.{◌≡◌, ◌≤◌, ℕ, false, List, [], ◌∷◌, Option, Some, None, refl, sym, subst, arith}
+use Rattle.std.proofs.Common.{◌≡◌, ◌≤◌, ℕ, false, List, [], ◌∷◌, Some, refl, sym, subst, arith}
 use Rattle.fk_base.specs.Path.{Name, PathNames, parent}
 use Rattle.fk_base.specs.declared.code.Code.TheVariants as code
 use Rattle.fk_tree.specs.Check.{check}
 use Rattle.fk_tree.specs.Tree.{start_tree}
 use Rattle.fk_tree.specs.View.{look}
 use Rattle.fk_tree.specs.declared.request.Request.TheVariants as request
-use Rattle.fk_print.specs.declared.event.Event.TheVariants as event
 use Rattle.fk_script.specs.declared.deployment.Deployment.{Deployment}
 use Rattle.fk_spec.specs.Plan.{Plan, plan_of}
 use Rattle.fk_spec.specs.Promises.{IsLawful, Promises}
@@ -15,7 +14,7 @@ use Rattle.fk_play.specs.Run.{IsRunOf}
 use Rattle.fk_play.proofs.Orphan as course
 use Rattle.fk_play.proofs.Paths.{same, parent_before, child_after, same_paths}
 use Rattle.fk_play.proofs.Silence.{silent_earlier, silent_refusals, silent_replies}
-use Rattle.fk_play.proofs.StartTree.{start_none, start_root}
+use Rattle.fk_play.proofs.StartTree.{start_none}
 
 -- its parent is missing on the tree as it starts
 missing : (n m : Name) (q : PathNames) (bytes : List ℕ) → check (look start_tree) 1 (request.Create (n ∷ m ∷ q) bytes false false) ≡ Some (record { code = code.NoNode; place = 0 })

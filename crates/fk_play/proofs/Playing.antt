@@ -1,10 +1,10 @@
 -- A deployment of the form that runs, while its drain is played.
-use Rattle.std.proofs.Common.{◌≡◌, ◌<◌, ◌≤◌, ◌+◌, ℕ, zero, suc, Bool, true, false, List, [], ◌∷◌, Option, Some, None, length, refl, sym, subst, arith}
+use Rattle.std.proofs.Common.{◌≡◌, ◌<◌, ◌≤◌, ℕ, suc, Bool, true, false, List, [], ◌∷◌, Option, Some, None, length, refl, sym, subst, arith}
 use Rattle.std.proofs.lemmas.Bool.{false≢true}
 use Rattle.fk_base.specs.Path.{PathNames}
 use Rattle.fk_print.specs.declared.event.Event.{Event}
 use Rattle.fk_script.specs.declared.deployment.Deployment.{Deployment}
-use Rattle.fk_spec.specs.Plan.{Plan, item_after, plan_of}
+use Rattle.fk_spec.specs.Plan.{item_after, plan_of}
 use Rattle.fk_play.specs.Built.{AsksOne, create_plan, one_ask, want_for}
 use Rattle.fk_play.specs.Engine.{State, Takes, clock_step, event_step, next_event, start_state}
 use Rattle.fk_play.specs.Run.{IsRunOf}

@@ -1,20 +1,12 @@
 -- That history is lawful, scheduled and answered.
-use Rattle.std.proofs.Common.{◌≡◌, ◌≤◌, ℕ, false, List, [], ◌∷◌, Option, Some, None, refl, sym, subst, arith}
-use Rattle.fk_base.specs.Path.{Name, PathNames, parent}
-use Rattle.fk_tree.specs.Check.{check}
-use Rattle.fk_tree.specs.Tree.{start_tree}
-use Rattle.fk_tree.specs.View.{look}
-use Rattle.fk_tree.specs.declared.request.Request.TheVariants as request
-use Rattle.fk_print.specs.declared.event.Event.TheVariants as event
+use Rattle.std.proofs.Common.{◌≡◌, ◌≤◌, ℕ, List, [], refl, sym, subst, arith}
 use Rattle.fk_script.specs.declared.deployment.Deployment.{Deployment}
 use Rattle.fk_spec.specs.Plan.{Plan, plan_of}
 use Rattle.fk_spec.specs.Promises.{IsLawful, Promises}
 use Rattle.fk_spec.specs.Schedule.{AllAnswered, Drains, Empties, Emptied, Goes}
 use Rattle.fk_play.specs.Run.{IsRunOf}
 use Rattle.fk_play.proofs.Root as course
-use Rattle.fk_play.proofs.Paths.{same, parent_before, child_after, same_paths}
 use Rattle.fk_play.proofs.Silence.{silent_earlier, silent_refusals, silent_replies}
-use Rattle.fk_play.proofs.StartTree.{start_none, start_root}
 
 none_seen : 0 ≤ 0
 none_seen = omega arith

@@ -1,6 +1,6 @@
 -- The tree as it starts.
-use Rattle.std.proofs.Common.{◌≡◌, ◌∙◌, [], ◌∷◌, Option, Some, None}
-use Rattle.std.specs.FinMap.{get, insert, empty, get-insert, get-empty}
+use Rattle.std.proofs.Common.{◌≡◌, ◌∙◌, [], ◌∷◌, Some, None}
+use Rattle.std.specs.FinMap.{get, empty, get-insert, get-empty}
 use Rattle.std.proofs.lemmas.Cmp.{nat_list_cmp_total, lists_total}
 use Rattle.fk_base.specs.Path.{Name, PathNames, path_cmp}
 use Rattle.fk_tree.specs.Tree.{root_node, start_tree}

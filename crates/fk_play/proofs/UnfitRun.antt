@@ -1,20 +1,12 @@
 -- That history is lawful, scheduled and answered.
-use Rattle.std.proofs.Common.{◌≡◌, ◌≤◌, ℕ, false, List, [], ◌∷◌, Option, Some, None, refl, sym, subst, arith}
-use Rattle.fk_base.specs.Path.{Name, PathNames, parent}
-use Rattle.fk_tree.specs.Check.{check}
-use Rattle.fk_tree.specs.Tree.{start_tree}
-use Rattle.fk_tree.specs.View.{look}
-use Rattle.fk_tree.specs.declared.request.Request.TheVariants as request
-use Rattle.fk_print.specs.declared.event.Event.TheVariants as event
+use Rattle.std.proofs.Common.{◌≡◌, ℕ, [], refl, sym, subst}
 use Rattle.fk_script.specs.declared.deployment.Deployment.{Deployment}
 use Rattle.fk_spec.specs.Plan.{Plan, plan_of}
 use Rattle.fk_spec.specs.Promises.{IsLawful, Promises}
 use Rattle.fk_spec.specs.Schedule.{AllAnswered, Drains, Empties, Emptied, Goes}
 use Rattle.fk_play.specs.Run.{IsRunOf}
 use Rattle.fk_play.proofs.Unfit as course
-use Rattle.fk_play.proofs.Paths.{same, parent_before, child_after, same_paths}
 use Rattle.fk_play.proofs.Silence.{silent_earlier, silent_refusals, silent_replies}
-use Rattle.fk_play.proofs.StartTree.{start_none, start_root}
 
 promises1 : (beat : ℕ) → Promises (course.plan beat) course.after1
 promises1 beat = record { once = tt; replies = silent_replies (course.plan beat) course.after1 refl; refusals = silent_refusals (course.plan beat) course.after1 course.after1 refl }
@@ -33,7 +25,7 @@ empties : (beat : ℕ) → Empties (course.plan beat) course.after1 course.after
 empties beat = Goes course.after1 course.after2 _ (course.drains1 beat) (Emptied course.after2 (course.drained beat))
 
 drains : (beat : ℕ) → Drains (course.plan beat) [] course.after2
-drains beat = record { begun = course.after1; begins = (_, refl, refl); empties = empties beat  }
+drains beat = record { begun = course.after1; begins = (_, refl, refl); empties = empties beat }
 
 answered : (beat : ℕ) → AllAnswered (course.plan beat) course.after2
 answered beat = record { clients = (record { commands = (refl, tt); lane = refl; inbox = refl }, tt); leader = refl; functions = refl }

@@ -1,7 +1,6 @@
 -- Which deployments run so far: one client with one create that is neither sequential nor ephemeral.
 use Rattle.std.specs.Prelude.{◌≡◌, ℕ, ◌==◌, Bool, true, false, ◌&&◌, List, [], ◌∷◌}
 use Rattle.fk_base.specs.Path.{PathNames}
-use Rattle.fk_tree.specs.declared.request.Request.{Request}
 use Rattle.fk_tree.specs.declared.request.Request.TheVariants as request
 use Rattle.fk_print.specs.declared.line.Verb.{Verb}
 use Rattle.fk_print.specs.declared.line.Verb.TheVariants as verb

@@ -17,6 +17,7 @@ const DATA_LIMIT: usize = 16_384;
 
 /// How many bytes the text of a path may have, and of a sequential create's.
 const PATH_LIMIT: usize = 512;
+
 const SEQUENTIAL_LIMIT: usize = 502;
 
 /// The path that a word means, where it means one and isn't too long.
