@@ -62,7 +62,8 @@ pub(crate) fn put_act(out: &mut String, clients: &Names, act: &Act) -> Result<()
 }
 
 fn put_paths(out: &mut String, clients: &Names, paths: &[Path]) -> Result<(), NoMemory>
-    ensures { OnOk result (string_bytes out.new ≡ string_bytes out.old ++ spaced (map path_text paths.now)) }
+    ensures { OnOk result (string_bytes out.new ≡ string_bytes out.old
+        ++ spaced (map path_text paths.now)) }
 {
     for path in paths {
         words(out, clients, &[Piece::Path(path)])?;
@@ -71,7 +72,8 @@ fn put_paths(out: &mut String, clients: &Names, paths: &[Path]) -> Result<(), No
 }
 
 fn put_parts(out: &mut String, clients: &Names, parts: &[Part]) -> Result<(), NoMemory>
-    ensures { OnOk result (string_bytes out.new ≡ string_bytes out.old ++ spaced (flat_map part_words parts.now)) }
+    ensures { OnOk result (string_bytes out.new ≡ string_bytes out.old
+        ++ spaced (flat_map part_words parts.now)) }
 {
     for part in parts {
         put_part(out, clients, part)?;

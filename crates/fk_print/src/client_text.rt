@@ -6,9 +6,10 @@ use crate::op::Op;
 use crate::piece::{Piece, words};
 use fk_base::{Names, NoMemory};
 
-/// Writes the words of a client's operation; no other is left.
+/// Writes the words of a client's operation, and nothing for any other.
 pub(crate) fn client_operation(out: &mut String, clients: &Names, op: &Op) -> Result<(), NoMemory>
-    ensures { OnOk result (string_bytes out.new ≡ string_bytes out.old ++ spaced (client_words clients.now op.now)) }
+    ensures { OnOk result (string_bytes out.new ≡ string_bytes out.old
+        ++ spaced (client_words clients.now op.now)) }
 {
     use Piece::*;
     match op {

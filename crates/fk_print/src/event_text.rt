@@ -7,7 +7,8 @@ use fk_base::{Names, NoMemory};
 
 /// Writes the line of an event.
 pub(crate) fn put_event(out: &mut String, clients: &Names, event: &Event) -> Result<(), NoMemory>
-    ensures { OnOk result (string_bytes out.new ≡ string_bytes out.old ++ event_text clients.now event.now) }
+    ensures { OnOk result (string_bytes out.new ≡ string_bytes out.old
+        ++ event_text clients.now event.now) }
 {
     use Piece::*;
     match event {

@@ -7,9 +7,10 @@ use crate::op::Op;
 use crate::piece::{Piece, words};
 use fk_base::{Names, NoMemory};
 
-/// Writes the words of a follower's operation, or of one that stands below.
+/// Writes the words of a follower's operation, and passes any other on.
 pub(crate) fn follower_operation(out: &mut String, clients: &Names, op: &Op) -> Result<(), NoMemory>
-    ensures { OnOk result (string_bytes out.new ≡ string_bytes out.old ++ spaced (follower_words clients.now op.now)) }
+    ensures { OnOk result (string_bytes out.new ≡ string_bytes out.old
+        ++ spaced (follower_words clients.now op.now)) }
 {
     use Piece::*;
     match op {
@@ -143,9 +144,10 @@ pub(crate) fn follower_operation(out: &mut String, clients: &Names, op: &Op) -> 
     }
 }
 
-/// Writes the words of a leader's operation, or of one that stands below.
+/// Writes the words of a leader's operation, and passes any other on.
 fn leader_operation(out: &mut String, clients: &Names, op: &Op) -> Result<(), NoMemory>
-    ensures { OnOk result (string_bytes out.new ≡ string_bytes out.old ++ spaced (leader_words clients.now op.now)) }
+    ensures { OnOk result (string_bytes out.new ≡ string_bytes out.old
+        ++ spaced (leader_words clients.now op.now)) }
 {
     use Piece::*;
     match op {
@@ -281,9 +283,10 @@ fn leader_operation(out: &mut String, clients: &Names, op: &Op) -> Result<(), No
     }
 }
 
-/// Writes the words of an operation of a watch function or a heartbeat, or of one that stands below.
+/// Writes the words of a watch function's or a heartbeat's operation, and passes any other on.
 fn notifier_operation(out: &mut String, clients: &Names, op: &Op) -> Result<(), NoMemory>
-    ensures { OnOk result (string_bytes out.new ≡ string_bytes out.old ++ spaced (notifier_words clients.now op.now)) }
+    ensures { OnOk result (string_bytes out.new ≡ string_bytes out.old
+        ++ spaced (notifier_words clients.now op.now)) }
 {
     use Piece::*;
     match op {

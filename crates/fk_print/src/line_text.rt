@@ -29,7 +29,8 @@ impl Verb {
 
 /// Writes public lines, in order.
 pub(crate) fn put_lines(out: &mut String, clients: &Names, lines: &[Line]) -> Result<(), NoMemory>
-    ensures { OnOk result (string_bytes out.new ≡ string_bytes out.old ++ flat_map (line_text clients.now) lines.now) }
+    ensures { OnOk result (string_bytes out.new ≡ string_bytes out.old
+        ++ flat_map (line_text clients.now) lines.now) }
 {
     for line in lines {
         put_public(out, clients, line)?;
@@ -99,7 +100,8 @@ fn put_reply(
     verb: Verb,
     shown: &Shown,
 ) -> Result<(), NoMemory>
-    ensures { OnOk result (string_bytes out.new ≡ string_bytes out.old ++ reply_text clients.now session command verb shown.now) }
+    ensures { OnOk result (string_bytes out.new ≡ string_bytes out.old
+        ++ reply_text clients.now session command verb shown.now) }
 {
     use Piece::*;
     out.push_str("<")?;

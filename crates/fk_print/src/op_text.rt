@@ -51,7 +51,8 @@ pub(crate) fn put_op(out: &mut String, clients: &Names, op: &Op) -> Result<(), N
 
 /// Writes the words of an operation.
 fn operation(out: &mut String, clients: &Names, op: &Op) -> Result<(), NoMemory>
-    ensures { OnOk result (string_bytes out.new ≡ string_bytes out.old ++ spaced (op_words clients.now op.now)) }
+    ensures { OnOk result (string_bytes out.new ≡ string_bytes out.old
+        ++ spaced (op_words clients.now op.now)) }
 {
     use Piece::*;
     match op {

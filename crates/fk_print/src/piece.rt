@@ -28,7 +28,8 @@ pub(crate) enum Piece<'a> {
 
 /// Writes words, each behind a space.
 pub(crate) fn words(out: &mut String, clients: &Names, pieces: &[Piece]) -> Result<(), NoMemory>
-    ensures { OnOk result (string_bytes out.new ≡ string_bytes out.old ++ spaced (words_of clients.now pieces.now)) }
+    ensures { OnOk result (string_bytes out.new ≡ string_bytes out.old
+        ++ spaced (words_of clients.now pieces.now)) }
 {
     for one in pieces {
         put_piece(out, clients, one)?;
@@ -43,7 +44,8 @@ pub(crate) fn put_line(
     mark: &str,
     pieces: &[Piece],
 ) -> Result<(), NoMemory>
-    ensures { OnOk result (string_bytes out.new ≡ string_bytes out.old ++ marked mark.now (words_of clients.now pieces.now)) }
+    ensures { OnOk result (string_bytes out.new ≡ string_bytes out.old
+        ++ marked mark.now (words_of clients.now pieces.now)) }
 {
     out.push_str(mark)?;
     words(out, clients, pieces)?;
@@ -52,7 +54,8 @@ pub(crate) fn put_line(
 }
 
 fn put_piece(out: &mut String, clients: &Names, piece: &Piece) -> Result<(), NoMemory>
-    ensures { OnOk result (string_bytes out.new ≡ string_bytes out.old ++ spaced (piece_words clients.now piece.now)) }
+    ensures { OnOk result (string_bytes out.new ≡ string_bytes out.old
+        ++ spaced (piece_words clients.now piece.now)) }
 {
     if let Piece::Place(0) = piece {
         return Ok(());

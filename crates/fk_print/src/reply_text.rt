@@ -118,7 +118,8 @@ fn put_part_replies(
     clients: &Names,
     replies: &[PartReply],
 ) -> Result<(), NoMemory>
-    ensures { OnOk result (string_bytes out.new ≡ string_bytes out.old ++ spaced (map part_reply_word replies.now)) }
+    ensures { OnOk result (string_bytes out.new ≡ string_bytes out.old
+        ++ spaced (map part_reply_word replies.now)) }
 {
     for reply in replies {
         put_part_reply(out, clients, reply)?;
@@ -127,7 +128,8 @@ fn put_part_replies(
 }
 
 fn put_part_reply(out: &mut String, clients: &Names, reply: &PartReply) -> Result<(), NoMemory>
-    ensures { OnOk result (string_bytes out.new ≡ string_bytes out.old ++ spaced (part_reply_word reply.now ∷ [])) }
+    ensures { OnOk result (string_bytes out.new ≡ string_bytes out.old
+        ++ spaced (part_reply_word reply.now ∷ [])) }
 {
     match reply {
         PartReply::Created(path) => words(out, clients, &[Piece::Path(path)]),
