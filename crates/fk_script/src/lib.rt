@@ -8,3 +8,6 @@ mod lists;
 pub use command::{Command, PartCommand};
 pub use deployment::{Block, Deployment, Turn};
 pub use lists::{Clients, Commands, PartCommands, Turns};
+
+#[cfg(test)]
+mod tests;

@@ -1,8 +1,11 @@
 ghost use Rattle.std.specs.Prelude.{IfOk};
 ghost use Rattle.fk_tree.specs.Check.{IsPlain};
 
-use crate::{CheckFault, Reply, Request, Tree};
-use fk_base::{Bytes, Path};
+use crate::{
+    Answer, Change, CheckFault, Edit, Edits, Part, PartReply, Parts, Query, Replies, Reply,
+    Request, Touch, Touches, Tree, What,
+};
+use fk_base::{Bytes, Names, NoMemory, Path};
 use std::alloc::Global;
 use std::test::Fail;
 
@@ -59,5 +62,42 @@ fn plays_requests(rt: HostRuntime) -> Result<(), Fail> {
         let request = request(alloc, path, version)?;
         assert_eq!(rt; shown(play(&mut tree, &request)), want, "at {path}");
     }
+    Ok(())
+}
+
+/// Whether lists with one item, a query and an answer are copied.
+fn copies(alloc: Global) -> Result<bool, NoMemory> {
+    let mut parts = Parts::new(alloc);
+    parts.push(Part::Delete {
+        path: Path::root(alloc),
+        version: -1,
+    })?;
+    let mut replies = Replies::new(alloc);
+    replies.push(PartReply::Deleted)?;
+    let mut touches = Touches::new(alloc);
+    touches.push(Touch {
+        path: Path::root(alloc),
+        change: Change::Child,
+    })?;
+    let mut edits = Edits::new(alloc);
+    edits.push(Edit {
+        path: Path::root(alloc),
+        what: What::Remove,
+    })?;
+    let query = Query::Ls(Path::root(alloc)).copy()?;
+    let answer = Answer::Listed(Names::new(alloc)).copy()?;
+    Ok(
+        parts.copy()?.as_slice().len() == 1
+            && replies.copy()?.as_slice().len() == 1
+            && touches.copy()?.as_slice().len() == 1
+            && edits.copy()?.as_slice().len() == 1
+            && matches!(&query, Query::Ls(_))
+            && matches!(&answer, Answer::Listed(_)),
+    )
+}
+
+#[test]
+fn copies_lists(rt: HostRuntime) -> Result<(), Fail> {
+    assert!(rt; copies(rt.alloc())?);
     Ok(())
 }
