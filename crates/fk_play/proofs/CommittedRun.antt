@@ -20,69 +20,69 @@ passes : (n : Name) (bytes : List ℕ) → check (look start_tree) 1 (request.Cr
 passes n bytes = rw (start_root, start_none n []) refl
 
 promises1 : (beat : ℕ) (n : Name) (bytes : List ℕ) → Promises (course.plan beat n bytes) (course.after1 n bytes)
-promises1 beat n bytes = record { once = tt; replies = silent_replies (course.plan beat n bytes) (course.after1 n bytes) refl; refusals = silent_refusals (course.plan beat n bytes) (course.after1 n bytes) (course.after1 n bytes) refl }
+promises1 beat n bytes = record { once = tt; replies = silent_replies (course.plan beat n bytes) (course.after1 n bytes) (course.after1 n bytes) refl; refusals = silent_refusals (course.plan beat n bytes) (course.after1 n bytes) (course.after1 n bytes) refl }
 
 promises2 : (beat : ℕ) (n : Name) (bytes : List ℕ) → Promises (course.plan beat n bytes) (course.after2 n bytes)
-promises2 beat n bytes = record { once = tt; replies = silent_replies (course.plan beat n bytes) (course.after2 n bytes) refl; refusals = silent_refusals (course.plan beat n bytes) (course.after2 n bytes) (course.after2 n bytes) refl }
+promises2 beat n bytes = record { once = tt; replies = silent_replies (course.plan beat n bytes) (course.after2 n bytes) (course.after2 n bytes) refl; refusals = silent_refusals (course.plan beat n bytes) (course.after2 n bytes) (course.after2 n bytes) refl }
 
 promises3 : (beat : ℕ) (n : Name) (bytes : List ℕ) → Promises (course.plan beat n bytes) (course.after3 n bytes)
-promises3 beat n bytes = record { once = tt; replies = silent_replies (course.plan beat n bytes) (course.after3 n bytes) refl; refusals = silent_refusals (course.plan beat n bytes) (course.after3 n bytes) (course.after3 n bytes) refl }
+promises3 beat n bytes = record { once = tt; replies = silent_replies (course.plan beat n bytes) (course.after3 n bytes) (course.after3 n bytes) refl; refusals = silent_refusals (course.plan beat n bytes) (course.after3 n bytes) (course.after3 n bytes) refl }
 
 promises4 : (beat : ℕ) (n : Name) (bytes : List ℕ) → Promises (course.plan beat n bytes) (course.after4 n bytes)
-promises4 beat n bytes = record { once = tt; replies = silent_replies (course.plan beat n bytes) (course.after4 n bytes) refl; refusals = silent_refusals (course.plan beat n bytes) (course.after4 n bytes) (course.after4 n bytes) refl }
+promises4 beat n bytes = record { once = tt; replies = silent_replies (course.plan beat n bytes) (course.after4 n bytes) (course.after4 n bytes) refl; refusals = silent_refusals (course.plan beat n bytes) (course.after4 n bytes) (course.after4 n bytes) refl }
 
 promises5 : (beat : ℕ) (n : Name) (bytes : List ℕ) → Promises (course.plan beat n bytes) (course.after5 n bytes)
-promises5 beat n bytes = record { once = tt; replies = silent_replies (course.plan beat n bytes) (course.after5 n bytes) refl; refusals = silent_refusals (course.plan beat n bytes) (course.after5 n bytes) (course.after5 n bytes) refl }
+promises5 beat n bytes = record { once = tt; replies = silent_replies (course.plan beat n bytes) (course.after5 n bytes) (course.after5 n bytes) refl; refusals = silent_refusals (course.plan beat n bytes) (course.after5 n bytes) (course.after5 n bytes) refl }
 
 promises6 : (beat : ℕ) (n : Name) (bytes : List ℕ) → Promises (course.plan beat n bytes) (course.after6 n bytes)
-promises6 beat n bytes = record { once = tt; replies = silent_replies (course.plan beat n bytes) (course.after6 n bytes) refl; refusals = silent_refusals (course.plan beat n bytes) (course.after6 n bytes) (course.after6 n bytes) refl }
+promises6 beat n bytes = record { once = tt; replies = silent_replies (course.plan beat n bytes) (course.after6 n bytes) (course.after6 n bytes) refl; refusals = silent_refusals (course.plan beat n bytes) (course.after6 n bytes) (course.after6 n bytes) refl }
 
 promises7 : (beat : ℕ) (n : Name) (bytes : List ℕ) → Promises (course.plan beat n bytes) (course.after7 n bytes)
-promises7 beat n bytes = record { once = tt; replies = silent_replies (course.plan beat n bytes) (course.after7 n bytes) refl; refusals = silent_refusals (course.plan beat n bytes) (course.after7 n bytes) (course.after7 n bytes) refl }
+promises7 beat n bytes = record { once = tt; replies = silent_replies (course.plan beat n bytes) (course.after7 n bytes) (course.after7 n bytes) refl; refusals = silent_refusals (course.plan beat n bytes) (course.after7 n bytes) (course.after7 n bytes) refl }
 
 promises8 : (beat : ℕ) (n : Name) (bytes : List ℕ) → Promises (course.plan beat n bytes) (course.after8 n bytes)
-promises8 beat n bytes = record { once = tt; replies = silent_replies (course.plan beat n bytes) (course.after8 n bytes) refl; refusals = silent_refusals (course.plan beat n bytes) (course.after8 n bytes) (course.after8 n bytes) refl }
+promises8 beat n bytes = record { once = tt; replies = silent_replies (course.plan beat n bytes) (course.after8 n bytes) (course.after8 n bytes) refl; refusals = silent_refusals (course.plan beat n bytes) (course.after8 n bytes) (course.after8 n bytes) refl }
 
 promises9 : (beat : ℕ) (n : Name) (bytes : List ℕ) → Promises (course.plan beat n bytes) (course.after9 n bytes)
-promises9 beat n bytes = record { once = tt; replies = silent_replies (course.plan beat n bytes) (course.after9 n bytes) refl; refusals = silent_refusals (course.plan beat n bytes) (course.after9 n bytes) (course.after9 n bytes) refl }
+promises9 beat n bytes = record { once = tt; replies = silent_replies (course.plan beat n bytes) (course.after9 n bytes) (course.after9 n bytes) refl; refusals = silent_refusals (course.plan beat n bytes) (course.after9 n bytes) (course.after9 n bytes) refl }
 
 promises10 : (beat : ℕ) (n : Name) (bytes : List ℕ) → Promises (course.plan beat n bytes) (course.after10 n bytes)
-promises10 beat n bytes = record { once = tt; replies = silent_replies (course.plan beat n bytes) (course.after10 n bytes) refl; refusals = silent_refusals (course.plan beat n bytes) (course.after10 n bytes) (course.after10 n bytes) refl }
+promises10 beat n bytes = record { once = tt; replies = silent_replies (course.plan beat n bytes) (course.after10 n bytes) (course.after10 n bytes) refl; refusals = silent_refusals (course.plan beat n bytes) (course.after10 n bytes) (course.after10 n bytes) refl }
 
 promises11 : (beat : ℕ) (n : Name) (bytes : List ℕ) → Promises (course.plan beat n bytes) (course.after11 n bytes)
-promises11 beat n bytes = record { once = tt; replies = silent_replies (course.plan beat n bytes) (course.after11 n bytes) refl; refusals = silent_refusals (course.plan beat n bytes) (course.after11 n bytes) (course.after11 n bytes) refl }
+promises11 beat n bytes = record { once = tt; replies = silent_replies (course.plan beat n bytes) (course.after11 n bytes) (course.after11 n bytes) refl; refusals = silent_refusals (course.plan beat n bytes) (course.after11 n bytes) (course.after11 n bytes) refl }
 
 promises12 : (beat : ℕ) (n : Name) (bytes : List ℕ) → Promises (course.plan beat n bytes) (course.after12 n bytes)
-promises12 beat n bytes = record { once = tt; replies = silent_replies (course.plan beat n bytes) (course.after12 n bytes) refl; refusals = silent_refusals (course.plan beat n bytes) (course.after12 n bytes) (course.after12 n bytes) refl }
+promises12 beat n bytes = record { once = tt; replies = silent_replies (course.plan beat n bytes) (course.after12 n bytes) (course.after12 n bytes) refl; refusals = silent_refusals (course.plan beat n bytes) (course.after12 n bytes) (course.after12 n bytes) refl }
 
 promises13 : (beat : ℕ) (n : Name) (bytes : List ℕ) → Promises (course.plan beat n bytes) (course.after13 n bytes)
-promises13 beat n bytes = record { once = tt; replies = silent_replies (course.plan beat n bytes) (course.after13 n bytes) refl; refusals = silent_refusals (course.plan beat n bytes) (course.after13 n bytes) (course.after13 n bytes) refl }
+promises13 beat n bytes = record { once = tt; replies = silent_replies (course.plan beat n bytes) (course.after13 n bytes) (course.after13 n bytes) refl; refusals = silent_refusals (course.plan beat n bytes) (course.after13 n bytes) (course.after13 n bytes) refl }
 
 promises14 : (beat : ℕ) (n : Name) (bytes : List ℕ) → Promises (course.plan beat n bytes) (course.after14 n bytes)
-promises14 beat n bytes = record { once = tt; replies = silent_replies (course.plan beat n bytes) (course.after14 n bytes) refl; refusals = silent_refusals (course.plan beat n bytes) (course.after14 n bytes) (course.after14 n bytes) refl }
+promises14 beat n bytes = record { once = tt; replies = silent_replies (course.plan beat n bytes) (course.after14 n bytes) (course.after14 n bytes) refl; refusals = silent_refusals (course.plan beat n bytes) (course.after14 n bytes) (course.after14 n bytes) refl }
 
 promises15 : (beat : ℕ) (n : Name) (bytes : List ℕ) → Promises (course.plan beat n bytes) (course.after15 n bytes)
-promises15 beat n bytes = record { once = tt; replies = silent_replies (course.plan beat n bytes) (course.after15 n bytes) refl; refusals = silent_refusals (course.plan beat n bytes) (course.after15 n bytes) (course.after15 n bytes) refl }
+promises15 beat n bytes = record { once = tt; replies = silent_replies (course.plan beat n bytes) (course.after15 n bytes) (course.after15 n bytes) refl; refusals = silent_refusals (course.plan beat n bytes) (course.after15 n bytes) (course.after15 n bytes) refl }
 
 promises16 : (beat : ℕ) (n : Name) (bytes : List ℕ) → Promises (course.plan beat n bytes) (course.after16 n bytes)
-promises16 beat n bytes = record { once = (tt, (refl, passes n bytes), tt); replies = silent_replies (course.plan beat n bytes) (course.after16 n bytes) refl; refusals = silent_refusals (course.plan beat n bytes) (course.after16 n bytes) (course.after16 n bytes) refl }
+promises16 beat n bytes = record { once = (tt, (refl, passes n bytes), tt); replies = silent_replies (course.plan beat n bytes) (course.after16 n bytes) (course.after16 n bytes) refl; refusals = silent_refusals (course.plan beat n bytes) (course.after16 n bytes) (course.after16 n bytes) refl }
 
 promises17 : (beat : ℕ) (n : Name) (bytes : List ℕ) → Promises (course.plan beat n bytes) (course.after17 n bytes)
-promises17 beat n bytes = record { once = (tt, (refl, passes n bytes), tt); replies = silent_replies (course.plan beat n bytes) (course.after17 n bytes) refl; refusals = silent_refusals (course.plan beat n bytes) (course.after17 n bytes) (course.after17 n bytes) refl }
+promises17 beat n bytes = record { once = (tt, (refl, passes n bytes), tt); replies = silent_replies (course.plan beat n bytes) (course.after17 n bytes) (course.after17 n bytes) refl; refusals = silent_refusals (course.plan beat n bytes) (course.after17 n bytes) (course.after17 n bytes) refl }
 
 promises18 : (beat : ℕ) (n : Name) (bytes : List ℕ) → Promises (course.plan beat n bytes) (course.after18 n bytes)
-promises18 beat n bytes = record { once = (tt, (refl, passes n bytes), tt); replies = silent_replies (course.plan beat n bytes) (course.after18 n bytes) refl; refusals = silent_refusals (course.plan beat n bytes) (course.after18 n bytes) (course.after18 n bytes) refl }
+promises18 beat n bytes = record { once = (tt, (refl, passes n bytes), tt); replies = silent_replies (course.plan beat n bytes) (course.after18 n bytes) (course.after18 n bytes) refl; refusals = silent_refusals (course.plan beat n bytes) (course.after18 n bytes) (course.after18 n bytes) refl }
 
 promises19 : (beat : ℕ) (n : Name) (bytes : List ℕ) → Promises (course.plan beat n bytes) (course.after19 n bytes)
-promises19 beat n bytes = record { once = (tt, (refl, passes n bytes), tt); replies = silent_replies (course.plan beat n bytes) (course.after19 n bytes) refl; refusals = silent_refusals (course.plan beat n bytes) (course.after19 n bytes) (course.after19 n bytes) refl }
+promises19 beat n bytes = record { once = (tt, (refl, passes n bytes), tt); replies = silent_replies (course.plan beat n bytes) (course.after19 n bytes) (course.after19 n bytes) refl; refusals = silent_refusals (course.plan beat n bytes) (course.after19 n bytes) (course.after19 n bytes) refl }
 
 promises20 : (beat : ℕ) (n : Name) (bytes : List ℕ) → Promises (course.plan beat n bytes) (course.after20 n bytes)
-promises20 beat n bytes = record { once = (tt, (refl, passes n bytes), tt); replies = silent_replies (course.plan beat n bytes) (course.after20 n bytes) refl; refusals = silent_refusals (course.plan beat n bytes) (course.after20 n bytes) (course.after20 n bytes) refl }
+promises20 beat n bytes = record { once = (tt, (refl, passes n bytes), tt); replies = silent_replies (course.plan beat n bytes) (course.after20 n bytes) (course.after20 n bytes) refl; refusals = silent_refusals (course.plan beat n bytes) (course.after20 n bytes) (course.after20 n bytes) refl }
 
 promises21 : (beat : ℕ) (n : Name) (bytes : List ℕ) → Promises (course.plan beat n bytes) (course.after21 n bytes)
 promises21 beat n bytes = record {
   once = (tt, (refl, passes n bytes), tt);
-  replies = (((silent_earlier 1 1 (course.after20 n bytes) refl, refl), tt), silent_replies (course.plan beat n bytes) (course.after20 n bytes) refl);
+  replies = (((silent_earlier 1 1 (course.after20 n bytes) refl, refl), tt), silent_replies (course.plan beat n bytes) (course.after21 n bytes) (course.after20 n bytes) refl);
   refusals = ((refl, tt), silent_refusals (course.plan beat n bytes) (course.after21 n bytes) (course.after20 n bytes) refl);
 }
 

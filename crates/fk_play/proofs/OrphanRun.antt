@@ -24,39 +24,39 @@ none_seen : 0 ≤ 0
 none_seen = omega arith
 
 promises1 : (beat : ℕ) (n m : Name) (q : PathNames) (bytes : List ℕ) → Promises (course.plan beat n m q bytes) (course.after1 n m q bytes)
-promises1 beat n m q bytes = record { once = tt; replies = silent_replies (course.plan beat n m q bytes) (course.after1 n m q bytes) refl; refusals = silent_refusals (course.plan beat n m q bytes) (course.after1 n m q bytes) (course.after1 n m q bytes) refl }
+promises1 beat n m q bytes = record { once = tt; replies = silent_replies (course.plan beat n m q bytes) (course.after1 n m q bytes) (course.after1 n m q bytes) refl; refusals = silent_refusals (course.plan beat n m q bytes) (course.after1 n m q bytes) (course.after1 n m q bytes) refl }
 
 promises2 : (beat : ℕ) (n m : Name) (q : PathNames) (bytes : List ℕ) → Promises (course.plan beat n m q bytes) (course.after2 n m q bytes)
-promises2 beat n m q bytes = record { once = tt; replies = silent_replies (course.plan beat n m q bytes) (course.after2 n m q bytes) refl; refusals = silent_refusals (course.plan beat n m q bytes) (course.after2 n m q bytes) (course.after2 n m q bytes) refl }
+promises2 beat n m q bytes = record { once = tt; replies = silent_replies (course.plan beat n m q bytes) (course.after2 n m q bytes) (course.after2 n m q bytes) refl; refusals = silent_refusals (course.plan beat n m q bytes) (course.after2 n m q bytes) (course.after2 n m q bytes) refl }
 
 promises3 : (beat : ℕ) (n m : Name) (q : PathNames) (bytes : List ℕ) → Promises (course.plan beat n m q bytes) (course.after3 n m q bytes)
-promises3 beat n m q bytes = record { once = tt; replies = silent_replies (course.plan beat n m q bytes) (course.after3 n m q bytes) refl; refusals = silent_refusals (course.plan beat n m q bytes) (course.after3 n m q bytes) (course.after3 n m q bytes) refl }
+promises3 beat n m q bytes = record { once = tt; replies = silent_replies (course.plan beat n m q bytes) (course.after3 n m q bytes) (course.after3 n m q bytes) refl; refusals = silent_refusals (course.plan beat n m q bytes) (course.after3 n m q bytes) (course.after3 n m q bytes) refl }
 
 promises4 : (beat : ℕ) (n m : Name) (q : PathNames) (bytes : List ℕ) → Promises (course.plan beat n m q bytes) (course.after4 n m q bytes)
-promises4 beat n m q bytes = record { once = tt; replies = silent_replies (course.plan beat n m q bytes) (course.after4 n m q bytes) refl; refusals = silent_refusals (course.plan beat n m q bytes) (course.after4 n m q bytes) (course.after4 n m q bytes) refl }
+promises4 beat n m q bytes = record { once = tt; replies = silent_replies (course.plan beat n m q bytes) (course.after4 n m q bytes) (course.after4 n m q bytes) refl; refusals = silent_refusals (course.plan beat n m q bytes) (course.after4 n m q bytes) (course.after4 n m q bytes) refl }
 
 promises5 : (beat : ℕ) (n m : Name) (q : PathNames) (bytes : List ℕ) → Promises (course.plan beat n m q bytes) (course.after5 n m q bytes)
-promises5 beat n m q bytes = record { once = tt; replies = silent_replies (course.plan beat n m q bytes) (course.after5 n m q bytes) refl; refusals = silent_refusals (course.plan beat n m q bytes) (course.after5 n m q bytes) (course.after5 n m q bytes) refl }
+promises5 beat n m q bytes = record { once = tt; replies = silent_replies (course.plan beat n m q bytes) (course.after5 n m q bytes) (course.after5 n m q bytes) refl; refusals = silent_refusals (course.plan beat n m q bytes) (course.after5 n m q bytes) (course.after5 n m q bytes) refl }
 
 promises6 : (beat : ℕ) (n m : Name) (q : PathNames) (bytes : List ℕ) → Promises (course.plan beat n m q bytes) (course.after6 n m q bytes)
-promises6 beat n m q bytes = record { once = tt; replies = silent_replies (course.plan beat n m q bytes) (course.after6 n m q bytes) refl; refusals = silent_refusals (course.plan beat n m q bytes) (course.after6 n m q bytes) (course.after6 n m q bytes) refl }
+promises6 beat n m q bytes = record { once = tt; replies = silent_replies (course.plan beat n m q bytes) (course.after6 n m q bytes) (course.after6 n m q bytes) refl; refusals = silent_refusals (course.plan beat n m q bytes) (course.after6 n m q bytes) (course.after6 n m q bytes) refl }
 
 promises7 : (beat : ℕ) (n m : Name) (q : PathNames) (bytes : List ℕ) → Promises (course.plan beat n m q bytes) (course.after7 n m q bytes)
-promises7 beat n m q bytes = record { once = tt; replies = silent_replies (course.plan beat n m q bytes) (course.after7 n m q bytes) refl; refusals = silent_refusals (course.plan beat n m q bytes) (course.after7 n m q bytes) (course.after7 n m q bytes) refl }
+promises7 beat n m q bytes = record { once = tt; replies = silent_replies (course.plan beat n m q bytes) (course.after7 n m q bytes) (course.after7 n m q bytes) refl; refusals = silent_refusals (course.plan beat n m q bytes) (course.after7 n m q bytes) (course.after7 n m q bytes) refl }
 
 promises8 : (beat : ℕ) (n m : Name) (q : PathNames) (bytes : List ℕ) → Promises (course.plan beat n m q bytes) (course.after8 n m q bytes)
-promises8 beat n m q bytes = record { once = tt; replies = silent_replies (course.plan beat n m q bytes) (course.after8 n m q bytes) refl; refusals = silent_refusals (course.plan beat n m q bytes) (course.after8 n m q bytes) (course.after8 n m q bytes) refl }
+promises8 beat n m q bytes = record { once = tt; replies = silent_replies (course.plan beat n m q bytes) (course.after8 n m q bytes) (course.after8 n m q bytes) refl; refusals = silent_refusals (course.plan beat n m q bytes) (course.after8 n m q bytes) (course.after8 n m q bytes) refl }
 
 promises9 : (beat : ℕ) (n m : Name) (q : PathNames) (bytes : List ℕ) → Promises (course.plan beat n m q bytes) (course.after9 n m q bytes)
-promises9 beat n m q bytes = record { once = tt; replies = silent_replies (course.plan beat n m q bytes) (course.after9 n m q bytes) refl; refusals = silent_refusals (course.plan beat n m q bytes) (course.after9 n m q bytes) (course.after9 n m q bytes) refl }
+promises9 beat n m q bytes = record { once = tt; replies = silent_replies (course.plan beat n m q bytes) (course.after9 n m q bytes) (course.after9 n m q bytes) refl; refusals = silent_refusals (course.plan beat n m q bytes) (course.after9 n m q bytes) (course.after9 n m q bytes) refl }
 
 promises10 : (beat : ℕ) (n m : Name) (q : PathNames) (bytes : List ℕ) → Promises (course.plan beat n m q bytes) (course.after10 n m q bytes)
-promises10 beat n m q bytes = record { once = tt; replies = silent_replies (course.plan beat n m q bytes) (course.after10 n m q bytes) refl; refusals = silent_refusals (course.plan beat n m q bytes) (course.after10 n m q bytes) (course.after10 n m q bytes) refl }
+promises10 beat n m q bytes = record { once = tt; replies = silent_replies (course.plan beat n m q bytes) (course.after10 n m q bytes) (course.after10 n m q bytes) refl; refusals = silent_refusals (course.plan beat n m q bytes) (course.after10 n m q bytes) (course.after10 n m q bytes) refl }
 
 promises11 : (beat : ℕ) (n m : Name) (q : PathNames) (bytes : List ℕ) → Promises (course.plan beat n m q bytes) (course.after11 n m q bytes)
 promises11 beat n m q bytes = record {
   once = tt;
-  replies = (((silent_earlier 1 1 (course.after10 n m q bytes) refl, refl), tt), silent_replies (course.plan beat n m q bytes) (course.after10 n m q bytes) refl);
+  replies = (((silent_earlier 1 1 (course.after10 n m q bytes) refl, refl), tt), silent_replies (course.plan beat n m q bytes) (course.after11 n m q bytes) (course.after10 n m q bytes) refl);
   refusals = (((missing n m q bytes, none_seen), tt), silent_refusals (course.plan beat n m q bytes) (course.after11 n m q bytes) (course.after10 n m q bytes) refl);
 }
 

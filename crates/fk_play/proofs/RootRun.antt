@@ -12,36 +12,36 @@ none_seen : 0 ≤ 0
 none_seen = omega arith
 
 promises1 : (beat : ℕ) (bytes : List ℕ) → Promises (course.plan beat bytes) (course.after1 bytes)
-promises1 beat bytes = record { once = tt; replies = silent_replies (course.plan beat bytes) (course.after1 bytes) refl; refusals = silent_refusals (course.plan beat bytes) (course.after1 bytes) (course.after1 bytes) refl }
+promises1 beat bytes = record { once = tt; replies = silent_replies (course.plan beat bytes) (course.after1 bytes) (course.after1 bytes) refl; refusals = silent_refusals (course.plan beat bytes) (course.after1 bytes) (course.after1 bytes) refl }
 
 promises2 : (beat : ℕ) (bytes : List ℕ) → Promises (course.plan beat bytes) (course.after2 bytes)
-promises2 beat bytes = record { once = tt; replies = silent_replies (course.plan beat bytes) (course.after2 bytes) refl; refusals = silent_refusals (course.plan beat bytes) (course.after2 bytes) (course.after2 bytes) refl }
+promises2 beat bytes = record { once = tt; replies = silent_replies (course.plan beat bytes) (course.after2 bytes) (course.after2 bytes) refl; refusals = silent_refusals (course.plan beat bytes) (course.after2 bytes) (course.after2 bytes) refl }
 
 promises3 : (beat : ℕ) (bytes : List ℕ) → Promises (course.plan beat bytes) (course.after3 bytes)
-promises3 beat bytes = record { once = tt; replies = silent_replies (course.plan beat bytes) (course.after3 bytes) refl; refusals = silent_refusals (course.plan beat bytes) (course.after3 bytes) (course.after3 bytes) refl }
+promises3 beat bytes = record { once = tt; replies = silent_replies (course.plan beat bytes) (course.after3 bytes) (course.after3 bytes) refl; refusals = silent_refusals (course.plan beat bytes) (course.after3 bytes) (course.after3 bytes) refl }
 
 promises4 : (beat : ℕ) (bytes : List ℕ) → Promises (course.plan beat bytes) (course.after4 bytes)
-promises4 beat bytes = record { once = tt; replies = silent_replies (course.plan beat bytes) (course.after4 bytes) refl; refusals = silent_refusals (course.plan beat bytes) (course.after4 bytes) (course.after4 bytes) refl }
+promises4 beat bytes = record { once = tt; replies = silent_replies (course.plan beat bytes) (course.after4 bytes) (course.after4 bytes) refl; refusals = silent_refusals (course.plan beat bytes) (course.after4 bytes) (course.after4 bytes) refl }
 
 promises5 : (beat : ℕ) (bytes : List ℕ) → Promises (course.plan beat bytes) (course.after5 bytes)
-promises5 beat bytes = record { once = tt; replies = silent_replies (course.plan beat bytes) (course.after5 bytes) refl; refusals = silent_refusals (course.plan beat bytes) (course.after5 bytes) (course.after5 bytes) refl }
+promises5 beat bytes = record { once = tt; replies = silent_replies (course.plan beat bytes) (course.after5 bytes) (course.after5 bytes) refl; refusals = silent_refusals (course.plan beat bytes) (course.after5 bytes) (course.after5 bytes) refl }
 
 promises6 : (beat : ℕ) (bytes : List ℕ) → Promises (course.plan beat bytes) (course.after6 bytes)
-promises6 beat bytes = record { once = tt; replies = silent_replies (course.plan beat bytes) (course.after6 bytes) refl; refusals = silent_refusals (course.plan beat bytes) (course.after6 bytes) (course.after6 bytes) refl }
+promises6 beat bytes = record { once = tt; replies = silent_replies (course.plan beat bytes) (course.after6 bytes) (course.after6 bytes) refl; refusals = silent_refusals (course.plan beat bytes) (course.after6 bytes) (course.after6 bytes) refl }
 
 promises7 : (beat : ℕ) (bytes : List ℕ) → Promises (course.plan beat bytes) (course.after7 bytes)
-promises7 beat bytes = record { once = tt; replies = silent_replies (course.plan beat bytes) (course.after7 bytes) refl; refusals = silent_refusals (course.plan beat bytes) (course.after7 bytes) (course.after7 bytes) refl }
+promises7 beat bytes = record { once = tt; replies = silent_replies (course.plan beat bytes) (course.after7 bytes) (course.after7 bytes) refl; refusals = silent_refusals (course.plan beat bytes) (course.after7 bytes) (course.after7 bytes) refl }
 
 promises8 : (beat : ℕ) (bytes : List ℕ) → Promises (course.plan beat bytes) (course.after8 bytes)
-promises8 beat bytes = record { once = tt; replies = silent_replies (course.plan beat bytes) (course.after8 bytes) refl; refusals = silent_refusals (course.plan beat bytes) (course.after8 bytes) (course.after8 bytes) refl }
+promises8 beat bytes = record { once = tt; replies = silent_replies (course.plan beat bytes) (course.after8 bytes) (course.after8 bytes) refl; refusals = silent_refusals (course.plan beat bytes) (course.after8 bytes) (course.after8 bytes) refl }
 
 promises9 : (beat : ℕ) (bytes : List ℕ) → Promises (course.plan beat bytes) (course.after9 bytes)
-promises9 beat bytes = record { once = tt; replies = silent_replies (course.plan beat bytes) (course.after9 bytes) refl; refusals = silent_refusals (course.plan beat bytes) (course.after9 bytes) (course.after9 bytes) refl }
+promises9 beat bytes = record { once = tt; replies = silent_replies (course.plan beat bytes) (course.after9 bytes) (course.after9 bytes) refl; refusals = silent_refusals (course.plan beat bytes) (course.after9 bytes) (course.after9 bytes) refl }
 
 promises10 : (beat : ℕ) (bytes : List ℕ) → Promises (course.plan beat bytes) (course.after10 bytes)
 promises10 beat bytes = record {
   once = tt;
-  replies = (((silent_earlier 1 1 (course.after9 bytes) refl, refl), tt), silent_replies (course.plan beat bytes) (course.after9 bytes) refl);
+  replies = (((silent_earlier 1 1 (course.after9 bytes) refl, refl), tt), silent_replies (course.plan beat bytes) (course.after10 bytes) (course.after9 bytes) refl);
   refusals = (((refl, none_seen), tt), silent_refusals (course.plan beat bytes) (course.after10 bytes) (course.after9 bytes) refl);
 }
 

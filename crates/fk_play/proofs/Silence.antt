@@ -5,7 +5,7 @@ use Rattle.fk_print.specs.declared.entry.Entry.{Entry}
 use Rattle.fk_print.specs.declared.line.Line.{Line}
 use Rattle.fk_print.specs.declared.line.Line.TheVariants as line
 use Rattle.fk_spec.specs.Plan.{Plan}
-use Rattle.fk_spec.specs.Promises.{AllEarlier, AllEarlierIn, RepliesFit, LinesFit, RefusalsIn, LineRefusalsFit}
+use Rattle.fk_spec.specs.Promises.{AllEarlier, AllEarlierIn, RepliesIn, LinesFit, RefusalsIn, LineRefusalsFit}
 
 -- whether an entry has a reply line
 abbrev pub has_reply : List Line → Bool
@@ -25,12 +25,12 @@ or-left : (a b : Bool) → (a || b) ≡ false → a ≡ false
 or-left true b e = absurd (false≢true (sym e))
 or-left false b e = refl
 
-lines_silent : (p : Plan) (h : List Entry) (ls : List Line) → has_reply ls ≡ false → LinesFit p h ls
-lines_silent p h [] e = tt
-lines_silent p h (line.Tx printed ∷ ls) e = (tt, lines_silent p h ls e)
-lines_silent p h (line.Reply session command verb shown ∷ ls) e = absurd (false≢true (sym e))
-lines_silent p h (line.Notice session tx kind what path ∷ ls) e = (tt, lines_silent p h ls e)
-lines_silent p h (line.Expired session tx ∷ ls) e = (tt, lines_silent p h ls e)
+lines_silent : (p : Plan) (k h : List Entry) (ls : List Line) → has_reply ls ≡ false → LinesFit p k h ls
+lines_silent p k h [] e = tt
+lines_silent p k h (line.Tx printed ∷ ls) e = (tt, lines_silent p k h ls e)
+lines_silent p k h (line.Reply session command verb shown ∷ ls) e = absurd (false≢true (sym e))
+lines_silent p k h (line.Notice session tx kind what path ∷ ls) e = (tt, lines_silent p k h ls e)
+lines_silent p k h (line.Expired session tx ∷ ls) e = (tt, lines_silent p k h ls e)
 
 refusals_silent : (p : Plan) (h : List Entry) (ls : List Line) → has_reply ls ≡ false → LineRefusalsFit p h ls
 refusals_silent p h [] e = tt
@@ -52,9 +52,9 @@ silent_earlier c i [] e = tt
 silent_earlier c i (x ∷ h) e = (earlier_in_silent c i x.lines (or-left (has_reply x.lines) (replies h) e), silent_earlier c i h (or-right (has_reply x.lines) (replies h) e))
 
 -- where no line is a reply, all replies fit
-pub silent_replies : (p : Plan) (h : List Entry) → replies h ≡ false → RepliesFit p h
-silent_replies p [] e = tt
-silent_replies p (x ∷ h) e = (lines_silent p h x.lines (or-left (has_reply x.lines) (replies h) e), silent_replies p h (or-right (has_reply x.lines) (replies h) e))
+pub silent_replies : (p : Plan) (k h : List Entry) → replies h ≡ false → RepliesIn p k h
+silent_replies p k [] e = tt
+silent_replies p k (x ∷ h) e = (lines_silent p k h x.lines (or-left (has_reply x.lines) (replies h) e), silent_replies p k h (or-right (has_reply x.lines) (replies h) e))
 
 pub silent_refusals : (p : Plan) (k h : List Entry) → replies h ≡ false → RefusalsIn p k h
 silent_refusals p k [] e = tt

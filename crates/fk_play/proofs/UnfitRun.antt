@@ -9,12 +9,12 @@ use Rattle.fk_play.proofs.Unfit as course
 use Rattle.fk_play.proofs.Silence.{silent_earlier, silent_refusals, silent_replies}
 
 promises1 : (beat : ℕ) → Promises (course.plan beat) course.after1
-promises1 beat = record { once = tt; replies = silent_replies (course.plan beat) course.after1 refl; refusals = silent_refusals (course.plan beat) course.after1 course.after1 refl }
+promises1 beat = record { once = tt; replies = silent_replies (course.plan beat) course.after1 course.after1 refl; refusals = silent_refusals (course.plan beat) course.after1 course.after1 refl }
 
 promises2 : (beat : ℕ) → Promises (course.plan beat) course.after2
 promises2 beat = record {
   once = tt;
-  replies = (((silent_earlier 1 1 course.after1 refl, refl), tt), silent_replies (course.plan beat) course.after1 refl);
+  replies = (((silent_earlier 1 1 course.after1 refl, refl), tt), silent_replies (course.plan beat) course.after2 course.after1 refl);
   refusals = ((refl, tt), silent_refusals (course.plan beat) course.after2 course.after1 refl);
 }
 

@@ -150,6 +150,13 @@ take_op c (Ping ping) = op.TakePing c ping
 abbrev pub look_op : ℕ → ℕ → ℕ → ℕ → Op
 look_op c command mark number = if nat_lt mark number then op.LookBehind c command mark else op.LookOk c command mark
 
+abbrev pub is_write : Verb → Bool
+is_write verb.Get = false
+is_write verb.Stat = false
+is_write verb.Ls = false
+is_write _ = true
+
+-- whether none of these has to be waited for
 abbrev pub all_go_on : Plan → ℕ → List Sent → Bool
 all_go_on p c [] = true
 all_go_on p c (s ∷ ss) = goes_on (asked p c s.command) && all_go_on p c ss
@@ -158,16 +165,23 @@ all_go_on p c (s ∷ ss) = goes_on (asked p c s.command) && all_go_on p c ss
     goes_on None = false
     goes_on (Some a) = not a.wait
 
+abbrev pub is_none_sent : List Sent → Bool
+is_none_sent [] = true
+is_none_sent (s ∷ ss) = false
+
+-- A command may begin where none is unanswered; a write also where none of those has to be waited for.
+abbrev pub may_begin : Plan → ℕ → Ask → List Sent → Bool
+may_begin p c a ss = if is_write a.verb then all_go_on p c ss else is_none_sent ss
+
 abbrev pub begin_op : ℕ → ℕ → List Entry → Want → Op
 begin_op c command h Unfit = op.Local c command
 begin_op c command h (Writes r) = op.Send c command (sends_of c h + 1)
 begin_op c command h (Reads q watch) = op.Idle
 
--- The next command may begin where no command is unanswered, or where none of them has to be waited
--- for. (What a read does comes with the reads.)
+-- what the next command makes where it may begin (what a read makes comes with the reads)
 abbrev pub next_command_op : Plan → ℕ → List Entry → Client → Option Ask → Op
 next_command_op p c h x None = op.Idle
-next_command_op p c h x (Some a) = if all_go_on p c x.sent then begin_op c (x.begun + 1) h a.want else op.Idle
+next_command_op p c h x (Some a) = if may_begin p c a x.sent then begin_op c (x.begun + 1) h a.want else op.Idle
 
 abbrev pub look_or : ℕ → List Entry → List Sent → Op → Op
 look_or c h [] o = o

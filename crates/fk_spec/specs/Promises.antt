@@ -95,25 +95,29 @@ ShowsOwn p h s None = ⊥
 ShowsOwn p h s (Some x) = ShowsReply s x.tx (published_as p x.tx h)
 
 -- An ok line of a write shows the tree's reply at its own transaction line, which stands before it; a
--- write with another line has no transaction line. (What a read shows comes with the reads.)
-abbrev pub ReplyFits : Plan → List Entry → ℕ → ℕ → Shown → Type 0
-ReplyFits p h c i (shown.Refused code at place) = tx_of_command c i h ≡ None
-ReplyFits p h c i (shown.Plain code) = tx_of_command c i h ≡ None
-ReplyFits p h c i (shown.Lost path own found moment) = tx_of_command c i h ≡ None
-ReplyFits p h c i s = ShowsOwn p h s (tx_of_command c i h)
+-- write with another line has no transaction line in the whole history `k`. (What a read shows comes with
+-- the reads.)
+abbrev pub ReplyFits : Plan → List Entry → List Entry → ℕ → ℕ → Shown → Type 0
+ReplyFits p k h c i (shown.Refused code at place) = tx_of_command c i k ≡ None
+ReplyFits p k h c i (shown.Plain code) = tx_of_command c i k ≡ None
+ReplyFits p k h c i (shown.Lost path own found moment) = tx_of_command c i k ≡ None
+ReplyFits p k h c i s = ShowsOwn p h s (tx_of_command c i h)
 
-abbrev pub LineFits : Plan → List Entry → Line → Type 0
-LineFits p h (line.Reply session command verb shown) = AllEarlier session command h × ReplyFits p h session command shown
-LineFits p h _ = Unit {0}
+abbrev pub LineFits : Plan → List Entry → List Entry → Line → Type 0
+LineFits p k h (line.Reply session command verb shown) = AllEarlier session command h × ReplyFits p k h session command shown
+LineFits p k h _ = Unit {0}
 
-abbrev pub LinesFit : Plan → List Entry → List Line → Type 0
-LinesFit p h [] = Unit {0}
-LinesFit p h (l ∷ ls) = LineFits p h l × LinesFit p h ls
+abbrev pub LinesFit : Plan → List Entry → List Entry → List Line → Type 0
+LinesFit p k h [] = Unit {0}
+LinesFit p k h (l ∷ ls) = LineFits p k h l × LinesFit p k h ls
 
--- each reply fits the entries before it
+abbrev pub RepliesIn : Plan → List Entry → List Entry → Type 0
+RepliesIn p k [] = Unit {0}
+RepliesIn p k (e ∷ h) = LinesFit p k h e.lines × RepliesIn p k h
+
+-- each client's replies are in the order of its commands, one for each at most, and each fits
 abbrev pub RepliesFit : Plan → List Entry → Type 0
-RepliesFit p [] = Unit {0}
-RepliesFit p (e ∷ h) = LinesFit p h e.lines × RepliesFit p h
+RepliesFit p h = RepliesIn p h h
 
 -- Refusals fit their cause. -----------------------------------------------------------------------
 
