@@ -2,8 +2,8 @@ ghost use Rattle.std.specs.Prelude.{IfOk};
 ghost use Rattle.fk_tree.specs.Check.{IsPlain};
 
 use crate::{
-    Answer, Change, CheckFault, Edit, Edits, Part, PartReply, Parts, Query, Replies, Reply,
-    Request, Touch, Touches, Tree, What,
+    Answer, Change, CheckFault, Edit, Edits, Made, Mades, Part, PartReply, Parts, Query, Replies,
+    Reply, Request, Touch, Touches, Tree, What,
 };
 use fk_base::{Bytes, Names, NoMemory, Path};
 use std::alloc::Global;
@@ -84,6 +84,11 @@ fn copies(alloc: Global) -> Result<bool, NoMemory> {
         path: Path::root(alloc),
         what: What::Remove,
     })?;
+    let mut mades = Mades::new(alloc);
+    mades.push(Made {
+        name: Path::root(alloc),
+        version: 0,
+    })?;
     let query = Query::Ls(Path::root(alloc)).copy()?;
     let answer = Answer::Listed(Names::new(alloc)).copy()?;
     Ok(
@@ -91,6 +96,7 @@ fn copies(alloc: Global) -> Result<bool, NoMemory> {
             && replies.copy()?.as_slice().len() == 1
             && touches.copy()?.as_slice().len() == 1
             && edits.copy()?.as_slice().len() == 1
+            && mades.copy()?.as_slice().len() == 1
             && matches!(&query, Query::Ls(_))
             && matches!(&answer, Answer::Listed(_)),
     )
