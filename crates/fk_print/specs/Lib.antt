@@ -1,3 +1,4 @@
+pub mod ClientNames
 pub mod EntryText
 pub mod EventText
 pub mod LineText
