@@ -27,6 +27,7 @@ pub data Stage : Type 0 where
   Lock : (path : PathNames) → Stage
   Push : Stage
   Refuse : (refusal : Refusal) (at : ℕ) → Stage
+  Expire : (at : ℕ) → Stage
   Commit : (tx : ℕ) → Stage
   Lost : Stage
   Reply : Stage
@@ -86,16 +87,13 @@ to_lock seen r f = record f { stage = next_stage seen r f (item_after (lock_path
 abbrev pub to_begin : ℕ → Request → Follower → Follower
 to_begin seen r f = if closes r then record f { stage = Owned } else to_lock seen r f
 
-abbrev pub closed_refusal : Refusal
-closed_refusal = record { code = code.SessionExpired; place = 0 }
-
 abbrev pub with_granted : Plan → List Entry → PathNames → Follower → Follower
 with_granted p h path f = record f { granted = f.granted ++ record { path = path; node = (stored_view p h).node path; last = last_edit p path h } ∷ [] }
 
 -- What comes after each answer. `r` is its request, `h` are the entries before.
 abbrev pub next_with : Plan → List Entry → Request → Op → Follower → Follower
 next_with p h r (op.SessionNew n) f = to_begin (seen_with f.session f.k h) r (record f { last = last_of_session f.session h })
-next_with p h r (op.SessionClosed n) f = record f { stage = Refuse closed_refusal (max (seen_with f.session f.k h) (last_of_session f.session h)) }
+next_with p h r (op.SessionClosed n) f = record f { stage = Expire (max (seen_with f.session f.k h) (last_of_session f.session h)) }
 next_with p h r (op.SessionApplied n) f = record f { stage = Ack }
 next_with p h r (op.SessionRefused n) f = record f { stage = Reply }
 next_with p h r (op.SessionPast n) f = record f { stage = Ack }
@@ -160,6 +158,10 @@ abbrev pub refuse_op : List Entry → ℕ → Refusal → ℕ → ℕ → ℕ �
 refuse_op h n r at c k =
     if settled_of c h + 1 == k then refuse_locked n r at (first_passed n h (in_path_order (granted n h))) else op.RefuseSettled n r.code r.place at (settled_of c h)
 
+-- a request of a closed session is refused under the first of them alone
+abbrev pub expire_op : List Entry → ℕ → ℕ → ℕ → ℕ → Op
+expire_op h n at c k = if settled_of c h + 1 == k then op.RefuseOk n code.SessionExpired 0 at else op.RefuseSettled n code.SessionExpired 0 at (settled_of c h)
+
 abbrev pub lost_op : List Entry → ℕ → ℕ → ℕ → Op
 lost_op h n c k = if settled_of c h + 1 == k then op.LostOk n else op.LostSettled n (settled_of c h)
 
@@ -178,6 +180,7 @@ follower_op p h n f Owned = op.Owned n (length (owned_after f.session (committed
 follower_op p h n f (Lock path) = lock_op p.lock h n path
 follower_op p h n f Push = op.Push n (pushes_of h + 1)
 follower_op p h n f (Refuse r at) = refuse_op h n r at f.session f.k
+follower_op p h n f (Expire at) = expire_op h n at f.session f.k
 follower_op p h n f (Commit tx) = commit_op h n tx n f.session f.k
 follower_op p h n f Lost = lost_op h n f.session f.k
 follower_op p h n f Reply = op.Reply n f.session f.k

@@ -6,7 +6,7 @@ use Rattle.fk_print.specs.declared.entry.Entry.{Entry}
 use Rattle.fk_print.specs.declared.op.Op.{Op}
 use Rattle.fk_print.specs.declared.op.Op.TheVariants as op
 use Rattle.fk_spec.specs.Plan.{Plan}
-use Rattle.fk_spec.specs.Start.{Task, Follows, Leads, when, task_of, sends_of, pushes_of, request_of}
+use Rattle.fk_spec.specs.Start.{Task, Follows, Leads, Notifies, when, task_of, sends_of, pushes_of, request_of}
 use Rattle.fk_spec.specs.Settling.{Outcome, outcome_of}
 
 abbrev pub follows_session : ℕ → Option Task → Bool
@@ -16,6 +16,10 @@ follows_session c _ = false
 abbrev pub leads : Option Task → Bool
 leads (Some (Leads tx)) = true
 leads _ = false
+
+abbrev pub notifies : Option Task → Bool
+notifies (Some (Notifies note)) = true
+notifies _ = false
 
 abbrev pub removed_in : (Option Task → Bool) → List Entry → Op → ℕ → ℕ
 removed_in works h (op.AckOk function) n = if works (task_of function h) then n + 1 else n
@@ -35,6 +39,18 @@ session_head c h = head_among (sends_of c h) (removed_by (follows_session c) h)
 
 abbrev pub leader_head : List Entry → Option ℕ
 leader_head h = head_among (pushes_of h) (removed_by leads h)
+
+abbrev pub note_count : Op → ℕ → ℕ
+note_count (op.Notify function tx note) n = n + 1
+note_count _ n = n
+
+-- how many notes the watch lane was given; they are numbered from 1 in the order of their lines
+abbrev pub notes_of : List Entry → ℕ
+notes_of [] = 0
+notes_of (e ∷ h) = note_count e.op (notes_of h)
+
+abbrev pub watch_head : List Entry → Option ℕ
+watch_head h = head_among (notes_of h) (removed_by notifies h)
 
 -- a message of a client's inbox
 pub data Message : Type 0 where

@@ -16,9 +16,10 @@ use Rattle.fk_print.specs.declared.op.Op.TheVariants as op
 use Rattle.fk_spec.specs.Plan.{Plan}
 use Rattle.fk_spec.specs.Start.{clock_of, starts_of}
 use Rattle.fk_spec.specs.Stored.{committed_as}
-use Rattle.fk_spec.specs.Lanes.{session_head, leader_head}
-use Rattle.fk_spec.specs.Function.{Place, place_of, is_absent, function_op}
-use Rattle.fk_spec.specs.Client.{client_in, client_op, client_lines}
+use Rattle.fk_spec.specs.Lanes.{session_head, leader_head, watch_head}
+use Rattle.fk_spec.specs.Function.{Place, place_of, is_absent, function_op, fault_op}
+use Rattle.fk_spec.specs.Client.{client_in, client_op, failed_op}
+use Rattle.fk_spec.specs.Replies.{client_lines}
 
 -- a delivery starts a function on a lane's head
 abbrev pub follow_op : ℕ → ℕ → Option ℕ → Op
@@ -29,20 +30,25 @@ abbrev pub lead_op : ℕ → Option ℕ → Op
 lead_op n None = op.Idle
 lead_op n (Some t) = op.Leader n t
 
+abbrev pub tell_op : ℕ → Option ℕ → Op
+tell_op n None = op.Idle
+tell_op n (Some w) = op.Teller n w
+
 abbrev pub crash_op : ℕ → Place → Op
 crash_op n x = if is_absent x then op.Idle else op.Crash n
 
--- The operation of an event. (Watches, heartbeats and faults come later.)
+-- The operation of an event: a delivery or a beat starts a function, a step makes a function's next
+-- operation, which fails at a fail event; a client's turn makes the client's.
 abbrev pub next_op : Plan → List Entry → Event → Op
 next_op p h (event.Client c) = client_op p c h
 next_op p h (event.Deliver c) = follow_op (starts_of h + 1) c (session_head c h)
 next_op p h event.Leader = lead_op (starts_of h + 1) (leader_head h)
-next_op p h event.Watch = op.Idle
-next_op p h (event.Beat c) = op.Idle
+next_op p h event.Watch = tell_op (starts_of h + 1) (watch_head h)
+next_op p h (event.Beat c) = op.Beat (starts_of h + 1) c
 next_op p h (event.Step n) = function_op p h n (place_of p n h)
 next_op p h (event.Crash n) = crash_op n (place_of p n h)
-next_op p h (event.Fail n) = op.Idle
-next_op p h (event.FailClient c) = op.Idle
+next_op p h (event.Fail n) = fault_op n (place_of p n h)
+next_op p h (event.FailClient c) = failed_op (client_op p c h)
 next_op p h (event.Clock moment) = op.Clock (max moment (clock_of h))
 
 abbrev pub act_by : Applied → Request → Act

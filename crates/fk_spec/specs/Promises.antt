@@ -1,45 +1,50 @@
 -- What a history promises, said on its public lines.
-use Rattle.std.specs.Prelude.{◌≡◌, ℕ, ◌-◌, ◌<◌, ◌≤◌, ◌==◌, Bool, true, false, if◌then◌else◌, List, [], ◌∷◌, Option, Some, None}
+use Rattle.std.specs.Prelude.{◌≡◌, ℕ, ◌-◌, ◌==◌, nat_le, nat_lt, Bool, true, false, if◌then◌else◌, List, [], ◌∷◌, Option, Some, None}
+use Rattle.fk_base.specs.Path.{PathNames}
 use Rattle.fk_base.specs.declared.code.Code.TheVariants as code
 use Rattle.fk_tree.specs.Apply.{reply_of}
-use Rattle.fk_tree.specs.Check.{Refusal, check}
-use Rattle.fk_tree.specs.View.{look}
+use Rattle.fk_tree.specs.Ask.{ask}
+use Rattle.fk_tree.specs.Check.{check}
 use Rattle.fk_tree.specs.declared.applied.Applied.{Applied}
+use Rattle.fk_tree.specs.declared.change.Change.{Change}
+use Rattle.fk_tree.specs.declared.change.Kind.{Kind}
+use Rattle.fk_tree.specs.declared.request.Query.{Query}
 use Rattle.fk_print.specs.declared.entry.Entry.{Entry}
 use Rattle.fk_print.specs.declared.line.Line.{Line}
 use Rattle.fk_print.specs.declared.line.Line.TheVariants as line
 use Rattle.fk_print.specs.declared.line.Printed.{Printed}
 use Rattle.fk_print.specs.declared.line.Shown.{Shown}
 use Rattle.fk_print.specs.declared.line.Shown.TheVariants as shown
+use Rattle.fk_print.specs.declared.line.Verb.{Verb}
 use Rattle.fk_print.specs.declared.op.Op.{Op}
 use Rattle.fk_print.specs.declared.op.Op.TheVariants as op
-use Rattle.fk_script.specs.declared.deployment.Deployment.{Deployment}
-use Rattle.fk_spec.specs.Plan.{Plan, Ask, Want, Unfit, Writes, asked, plan_of}
-use Rattle.fk_spec.specs.Shown.{seen_by}
+use Rattle.fk_spec.specs.Plan.{Plan, Ask, Want, Unfit, Writes, Reads, asked}
+use Rattle.fk_spec.specs.Shown.{shown_number}
 use Rattle.fk_spec.specs.Start.{or_else}
-use Rattle.fk_spec.specs.Client.{shown_reply}
-use Rattle.fk_spec.specs.Next.{next_entry, printed_of}
-use Rattle.fk_spec.specs.Published.{txs_of, published_tree, published_as}
+use Rattle.fk_spec.specs.Client.{is_write}
+use Rattle.fk_spec.specs.Replies.{shown_answer, shown_reply}
+use Rattle.fk_spec.specs.Next.{printed_of}
+use Rattle.fk_spec.specs.PublicLines.{Each, greatest_request, greatest_tx, last_notice, lines_of, seen_before, txs_among, txs_of}
+use Rattle.fk_spec.specs.Published.{published_as, published_view}
+use Rattle.fk_spec.specs.Holding.{Holding, Fired, firing_among, held_at, held_by, passes_none}
 
 -- Each request once. -----------------------------------------------------------------------------
-
--- the newer line's number is greater, and so is its request's where both are of one session
-pub record StandsAfter (newer older : Printed) : Type 0 where
-  pub number : older.tx < newer.tx
-  pub request : older.session ≡ newer.session → older.k < newer.k
-
-abbrev pub StandsAfterAll : Printed → List Printed → Type 0
-StandsAfterAll x [] = Unit {0}
-StandsAfterAll x (y ∷ ys) = StandsAfter x y × StandsAfterAll x ys
 
 -- a line shows its push as it is applied to the tree before it, and the request passes there
 abbrev pub ShowsApplied : List Entry → Printed → Option Applied → Type 0
 ShowsApplied h x None = ⊥
-ShowsApplied h x (Some a) = (x ≡ printed_of a) × (check (look (published_tree h (x.tx - 1))) a.session a.request ≡ None)
+ShowsApplied h x (Some a) = (x ≡ printed_of a) × (check (published_view h (x.tx - 1)) a.session a.request ≡ None)
+
+-- A transaction line has a greater number than each line before it, and a greater request than each of
+-- its session; it is its push, applied to the tree of the lines before it.
+pub record TxFits (p : Plan) (h : List Entry) (x : Printed) (before : List Printed) : Type 0 where
+  pub rises : nat_lt (greatest_tx before) x.tx ≡ true
+  pub in_order : nat_lt (greatest_request x.session before) x.k ≡ true
+  pub applied : ShowsApplied h x (published_as p x.tx h)
 
 abbrev pub TxsFit : Plan → List Entry → List Printed → Type 0
 TxsFit p h [] = Unit {0}
-TxsFit p h (x ∷ xs) = StandsAfterAll x xs × ShowsApplied h x (published_as p x.tx h) × TxsFit p h xs
+TxsFit p h (x ∷ xs) = TxFits p h x xs × TxsFit p h xs
 
 -- Transaction numbers rise, each request stands in one line at most and each client's in its order, and
 -- each line is its push, applied to the tree of the lines before it.
@@ -48,18 +53,14 @@ PublishesOnce p h = TxsFit p h (txs_of h)
 
 -- Replies fit the tree. ---------------------------------------------------------------------------
 
-abbrev pub later_command : ℕ → ℕ → Line → Type 0
-later_command c i (line.Reply session command verb shown) = session ≡ c → command < i
-later_command c i _ = Unit {0}
+abbrev pub is_earlier : ℕ → ℕ → Line → Bool
+is_earlier c i (line.Reply session command verb shown) = if session == c then nat_lt command i else true
+is_earlier c i _ = true
 
-abbrev pub AllEarlierIn : ℕ → ℕ → List Line → Type 0
-AllEarlierIn c i [] = Unit {0}
-AllEarlierIn c i (l ∷ ls) = later_command c i l × AllEarlierIn c i ls
-
--- each earlier reply of client c is to a command before command i
-abbrev pub AllEarlier : ℕ → ℕ → List Entry → Type 0
-AllEarlier c i [] = Unit {0}
-AllEarlier c i (e ∷ h) = AllEarlierIn c i e.lines × AllEarlier c i h
+-- whether each of these replies of client c is to a command before command i
+abbrev pub all_earlier : ℕ → ℕ → List Line → Bool
+all_earlier c i [] = true
+all_earlier c i (l ∷ ls) = if is_earlier c i l then all_earlier c i ls else false
 
 abbrev pub sent_as_in : ℕ → ℕ → Op → Option ℕ
 sent_as_in c i (op.Send session command k) = if session == c then (if command == i then Some k else None) else None
@@ -82,9 +83,9 @@ abbrev pub own_tx : ℕ → Option ℕ → List Printed → Option Printed
 own_tx c None xs = None
 own_tx c (Some k) xs = tx_for c k xs
 
--- the transaction line of command i of client c
-abbrev pub tx_of_command : ℕ → ℕ → List Entry → Option Printed
-tx_of_command c i h = own_tx c (sent_as c i h) (txs_of h)
+-- the transaction line of command i of client c among these
+abbrev pub tx_of_command : ℕ → ℕ → List Entry → List Printed → Option Printed
+tx_of_command c i h xs = own_tx c (sent_as c i h) xs
 
 abbrev pub ShowsReply : Shown → ℕ → Option Applied → Type 0
 ShowsReply s tx None = ⊥
@@ -95,98 +96,93 @@ ShowsOwn p h s None = ⊥
 ShowsOwn p h s (Some x) = ShowsReply s x.tx (published_as p x.tx h)
 
 -- An ok line of a write shows the tree's reply at its own transaction line, which stands before it; a
--- write with another line has no transaction line in the whole history `k`. (What a read shows comes with
--- the reads.)
-abbrev pub ReplyFits : Plan → List Entry → List Entry → ℕ → ℕ → Shown → Type 0
-ReplyFits p k h c i (shown.Refused code at place) = tx_of_command c i k ≡ None
-ReplyFits p k h c i (shown.Plain code) = tx_of_command c i k ≡ None
-ReplyFits p k h c i (shown.Lost path own found moment) = tx_of_command c i k ≡ None
-ReplyFits p k h c i s = ShowsOwn p h s (tx_of_command c i h)
+-- write with another line has no transaction line in the whole history.
+abbrev pub WriteShows : Plan → List Entry → List Line → ℕ → ℕ → Shown → Type 0
+WriteShows p h before c i (shown.Refused code at place) = tx_of_command c i h (txs_of h) ≡ None
+WriteShows p h before c i (shown.Plain code) = tx_of_command c i h (txs_of h) ≡ None
+WriteShows p h before c i (shown.Lost path own found moment) = tx_of_command c i h (txs_of h) ≡ None
+WriteShows p h before c i s = ShowsOwn p h s (tx_of_command c i h (txs_among before))
 
-abbrev pub LineFits : Plan → List Entry → List Entry → Line → Type 0
-LineFits p k h (line.Reply session command verb shown) = AllEarlier session command h × ReplyFits p k h session command shown
-LineFits p k h _ = Unit {0}
+-- the answer to a query from the tree of its number, which isn't beyond the transaction lines before it
+abbrev pub AnswersAt : List Entry → List Line → Query → Shown → Option ℕ → Type 0
+AnswersAt h before q s None = ⊥
+AnswersAt h before q s (Some n) = (s ≡ shown_answer n (ask (published_view h n) q)) × (nat_le n (greatest_tx (txs_among before)) ≡ true)
 
-abbrev pub LinesFit : Plan → List Entry → List Entry → List Line → Type 0
-LinesFit p k h [] = Unit {0}
-LinesFit p k h (l ∷ ls) = LineFits p k h l × LinesFit p k h ls
+-- A read shows the answer of the tree of its number; one that is refused for its closed session, or with
+-- a code that speaks of no number, shows none.
+abbrev pub ReadShows : List Entry → List Line → Query → Shown → Type 0
+ReadShows h before q (shown.Refused code.SessionExpired at place) = nat_le at (greatest_tx (txs_among before)) ≡ true
+ReadShows h before q (shown.Plain code) = Unit {0}
+ReadShows h before q s = AnswersAt h before q s (shown_number s)
 
-abbrev pub RepliesIn : Plan → List Entry → List Entry → Type 0
-RepliesIn p k [] = Unit {0}
-RepliesIn p k (e ∷ h) = LinesFit p k h e.lines × RepliesIn p k h
+abbrev pub WantShows : Plan → List Entry → List Line → ℕ → ℕ → Shown → Want → Type 0
+WantShows p h before c i s (Reads q watch) = ReadShows h before q s
+WantShows p h before c i s _ = WriteShows p h before c i s
 
--- each client's replies are in the order of its commands, one for each at most, and each fits
+-- the reply is to a command of the deployment, by its own verb, and shows what came of it
+abbrev pub AskShows : Plan → List Entry → List Line → ℕ → ℕ → Verb → Shown → Option Ask → Type 0
+AskShows p h before c i verb s None = ⊥
+AskShows p h before c i verb s (Some a) = (verb ≡ a.verb) × WantShows p h before c i s a.want
+
+abbrev pub ReplyFits : Plan → List Entry → Line → List Line → Type 0
+ReplyFits p h (line.Reply session command verb shown) before =
+    (all_earlier session command before ≡ true) × AskShows p h before session command verb shown (asked p session command)
+ReplyFits p h _ before = Unit {0}
+
+-- Each client's replies are in the order of its commands, one for each at most, and each fits the tree.
 abbrev pub RepliesFit : Plan → List Entry → Type 0
-RepliesFit p h = RepliesIn p h h
+RepliesFit p h = Each (ReplyFits p h) (lines_of h)
 
--- Refusals fit their cause. -----------------------------------------------------------------------
+-- No view goes back. ------------------------------------------------------------------------------
 
-abbrev pub seen_at_in : ℕ → ℕ → List Entry → Op → Option ℕ
-seen_at_in c i h (op.Send session command k) = if session == c then (if command == i then Some (seen_by c h) else None) else None
-seen_at_in c i h (op.Local session command) = if session == c then (if command == i then Some (seen_by c h) else None) else None
-seen_at_in c i h _ = None
+abbrev pub reads_at : Verb → Shown → Option ℕ
+reads_at verb s = if is_write verb then None else shown_number s
 
--- what client c had seen when it sent or refused command i
-abbrev pub seen_at : ℕ → ℕ → List Entry → Option ℕ
-seen_at c i [] = None
-seen_at c i (e ∷ h) = or_else (seen_at_in c i h e.op) (seen_at c i h)
+abbrev pub IsAtLeast : ℕ → Option ℕ → Type 0
+IsAtLeast seen None = Unit {0}
+IsAtLeast seen (Some n) = nat_le seen n ≡ true
 
-abbrev pub IsAtMost : Option ℕ → ℕ → Type 0
-IsAtMost None m = ⊥
-IsAtMost (Some n) m = n ≤ m
+abbrev pub ViewKept : Line → List Line → Type 0
+ViewKept (line.Reply session command verb shown) before = IsAtLeast (seen_before session before) (reads_at verb shown)
+ViewKept _ before = Unit {0}
 
-abbrev pub WriteRefused : List Entry → ℕ → Refusal → ℕ → Option Ask → Type 0
-WriteRefused h c r at None = ⊥
-WriteRefused h c r at (Some a) = RefusedAs a.want
-  where
-    RefusedAs : Want → Type 0
-    RefusedAs (Writes w) = check (look (published_tree h at)) c w ≡ Some r
-    RefusedAs _ = ⊥
+-- A read's number is at least each number that its client was shown before.
+abbrev pub ViewNeverFalls : List Entry → Type 0
+ViewNeverFalls h = Each ViewKept (lines_of h)
 
-abbrev pub is_unfit : Option Ask → Bool
-is_unfit None = false
-is_unfit (Some a) = unfit a.want
-  where
-    unfit : Want → Bool
-    unfit Unfit = true
-    unfit _ = false
+-- Notifications fit the watches. ------------------------------------------------------------------
 
--- A code at a number is the first check that fails on the tree of that number, which is at least what
--- the client had seen; BADARGUMENTS comes where the command is unfit, and nowhere else.
-abbrev pub RefusalFits : Plan → List Entry → ℕ → ℕ → Shown → Type 0
-RefusalFits p h c i (shown.Refused code at place) = WriteRefused h c (record { code = code; place = place }) at (asked p c i) × IsAtMost (seen_at c i h) at
-RefusalFits p h c i (shown.Plain code.BadArguments) = is_unfit (asked p c i) ≡ true
-RefusalFits p h c i (shown.Plain code) = ⊥
-RefusalFits p h c i (shown.Lost path own found moment) = ⊥
-RefusalFits p h c i s = is_unfit (asked p c i) ≡ false
+abbrev pub FiresAs : Option Holding → List Printed → Fired → Type 0
+FiresAs None xs f = ⊥
+FiresAs (Some w) xs f = firing_among w xs ≡ Some f
 
-abbrev pub LineRefusalFits : Plan → List Entry → Line → Type 0
-LineRefusalFits p h (line.Reply session command verb shown) = RefusalFits p h session command shown
-LineRefusalFits p h _ = Unit {0}
+abbrev pub NoticeFits : Plan → Line → List Line → Type 0
+NoticeFits p (line.Notice session tx kind change path) before =
+    FiresAs (held_at path kind (held_by p session before)) (txs_among before) (record { tx = tx; change = change }) × (nat_le (last_notice session before) tx ≡ true)
+NoticeFits p _ before = Unit {0}
 
-abbrev pub LineRefusalsFit : Plan → List Entry → List Line → Type 0
-LineRefusalsFit p h [] = Unit {0}
-LineRefusalsFit p h (l ∷ ls) = LineRefusalFits p h l × LineRefusalsFit p h ls
+-- Each notification is of a watch that its client holds and that has fired, at that transaction and with
+-- that change; a client's notifications are in the order of the transactions.
+abbrev pub NotificationsFit : Plan → List Entry → Type 0
+NotificationsFit p h = Each (NoticeFits p) (lines_of h)
 
-abbrev pub RefusalsIn : Plan → List Entry → List Entry → Type 0
-RefusalsIn p h [] = Unit {0}
-RefusalsIn p h (e ∷ k) = LineRefusalsFit p h e.lines × RefusalsIn p h k
+-- No read passes a fired watch. -------------------------------------------------------------------
 
--- each refusal has its printed cause, read from the whole history
-abbrev pub RefusalsFit : Plan → List Entry → Type 0
-RefusalsFit p h = RefusalsIn p h h
+-- the number up to which a reply shows the tree: an answer to a read, or an ok write
+abbrev pub passes_to : Verb → Shown → Option ℕ
+passes_to verb (shown.Refused code.NoNode at place) = if is_write verb then None else Some at
+passes_to verb (shown.Refused code at place) = None
+passes_to verb s = shown_number s
 
--- Lawful. -----------------------------------------------------------------------------------------
+abbrev pub PassesNone : List Printed → List Holding → Option ℕ → Type 0
+PassesNone xs ws None = Unit {0}
+PassesNone xs ws (Some n) = passes_none n xs ws ≡ true
 
-pub record Promises (p : Plan) (h : List Entry) : Type 0 where
-  pub once : PublishesOnce p h
-  pub replies : RepliesFit p h
-  pub refusals : RefusalsFit p h
+abbrev pub WatchesKept : Plan → Line → List Line → Type 0
+WatchesKept p (line.Reply session command verb shown) before = PassesNone (txs_among before) (held_by p session before) (passes_to verb shown)
+WatchesKept p _ before = Unit {0}
 
--- each entry follows those before it, and each prefix keeps the promises
-abbrev pub IsLawful : Plan → List Entry → Type 0
-IsLawful p [] = Unit {0}
-IsLawful p (e ∷ h) = IsLawful p h × (e ≡ next_entry p h e.event) × Promises p (e ∷ h)
-
-abbrev pub Lawful : Deployment → List Entry → Type 0
-Lawful d h = IsLawful (plan_of d) h
+-- At each answer to a read and each ok reply to a write, its client holds no watch that has fired at its
+-- number or below.
+abbrev pub NoReadPassesAWatch : Plan → List Entry → Type 0
+NoReadPassesAWatch p h = Each (WatchesKept p) (lines_of h)

@@ -4,6 +4,7 @@ use Rattle.fk_base.specs.Path.{PathNames}
 use Rattle.fk_tree.specs.Apply.{apply}
 use Rattle.fk_tree.specs.Fill.{fill}
 use Rattle.fk_tree.specs.Tree.{Tree, start_tree}
+use Rattle.fk_tree.specs.View.{View, look}
 use Rattle.fk_tree.specs.declared.applied.Applied.{Applied}
 use Rattle.fk_tree.specs.declared.applied.Made.{Made}
 use Rattle.fk_tree.specs.declared.request.Part.{Part}
@@ -13,21 +14,10 @@ use Rattle.fk_tree.specs.declared.request.Request.TheVariants as request
 use Rattle.fk_print.specs.declared.entry.Entry.{Entry}
 use Rattle.fk_print.specs.declared.line.Act.{Act}
 use Rattle.fk_print.specs.declared.line.Act.TheVariants as act
-use Rattle.fk_print.specs.declared.line.Line.{Line}
-use Rattle.fk_print.specs.declared.line.Line.TheVariants as line
 use Rattle.fk_print.specs.declared.line.Printed.{Printed}
 use Rattle.fk_spec.specs.Plan.{Plan}
 use Rattle.fk_spec.specs.Start.{Pushed, pushed_of}
-
-abbrev pub txs_in : List Line → List Printed → List Printed
-txs_in [] xs = xs
-txs_in (line.Tx printed ∷ ls) xs = txs_in ls (printed ∷ xs)
-txs_in (l ∷ ls) xs = txs_in ls xs
-
--- the transaction lines of a history, the newest first
-abbrev pub txs_of : List Entry → List Printed
-txs_of [] = []
-txs_of (e ∷ h) = txs_in e.lines (txs_of h)
+use Rattle.fk_spec.specs.PublicLines.{txs_of}
 
 -- the request that an act shows; its path is the final one
 abbrev pub request_shown : Act → Request
@@ -68,6 +58,10 @@ tree_of n (x ∷ xs) = if nat_le x.tx n then apply (tree_of n xs) (applied_shown
 -- the tree after the transaction lines that are numbered at most n
 abbrev pub published_tree : List Entry → ℕ → Tree
 published_tree h n = tree_of n (txs_of h)
+
+-- what that tree shows
+abbrev pub published_view : List Entry → ℕ → View
+published_view h n = look (published_tree h n)
 
 abbrev pub filled_on : Tree → ℕ → Option Pushed → Option Applied
 filled_on t tx None = None

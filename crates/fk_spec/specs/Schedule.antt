@@ -12,9 +12,9 @@ use Rattle.fk_script.specs.declared.deployment.Turn.{Turn}
 use Rattle.fk_script.specs.declared.deployment.Turn.TheVariants as turn
 use Rattle.fk_spec.specs.Plan.{Plan, Ask, plan_of}
 use Rattle.fk_spec.specs.Start.{clock_of, or_else}
-use Rattle.fk_spec.specs.Lanes.{session_head, leader_head, inbox_of}
+use Rattle.fk_spec.specs.Lanes.{session_head, leader_head, watch_head, inbox_of}
 use Rattle.fk_spec.specs.Function.{in_flight}
-use Rattle.fk_spec.specs.Client.{client_op}
+use Rattle.fk_spec.specs.Client.{client_op, client_of}
 
 abbrev pub crashes : List ℕ → List Event
 crashes [] = []
@@ -36,6 +36,10 @@ abbrev pub lead_where : Option ℕ → Option Event
 lead_where None = None
 lead_where (Some t) = Some event.Leader
 
+abbrev pub tell_where : Option ℕ → Option Event
+tell_where None = None
+tell_where (Some w) = Some event.Watch
+
 abbrev pub deliver_where : ℕ → Option ℕ → Option Event
 deliver_where c None = None
 deliver_where c (Some k) = Some (event.Deliver c)
@@ -50,10 +54,11 @@ abbrev pub client_first : Plan → List (List Ask) → ℕ → List Entry → Op
 client_first p [] c h = None
 client_first p (x ∷ xs) c h = if is_idle (client_op p c h) then client_first p xs (suc c) h else Some (event.Client c)
 
--- What a drain does next: a step of the first function in flight, a delivery to the leader, a delivery
--- to the first session whose lane isn't empty, or a turn of the first client that isn't idle.
+-- What a drain does next: a step of the first function in flight, a delivery to a watch function, one to
+-- the leader, one to the first session whose lane isn't empty, or a turn of the first client that isn't
+-- idle.
 abbrev pub next_of_drain : Plan → List Entry → Option Event
-next_of_drain p h = or_else (step_of_first (in_flight p h)) (or_else (lead_where (leader_head h)) (or_else (deliver_first p.asks 1 h) (client_first p p.asks 1 h)))
+next_of_drain p h = or_else (step_of_first (in_flight p h)) (or_else (tell_where (watch_head h)) (or_else (lead_where (leader_head h)) (or_else (deliver_first p.asks 1 h) (client_first p p.asks 1 h))))
 
 -- these events in order lead from h to k
 abbrev pub Plays : List Event → List Entry → List Entry → Type 0
@@ -100,20 +105,22 @@ abbrev pub CommandsAnswered : ℕ → List Ask → ℕ → List Entry → Type 0
 CommandsAnswered c [] i h = Unit {0}
 CommandsAnswered c (a ∷ xs) i h = (is_answered c i h ≡ true) × CommandsAnswered c xs (suc i) h
 
--- client c has a line for each command, and nothing waits for it
+-- client c has a line for each command, nothing waits for it, and it owes no ping
 pub record ClientAnswered (p : Plan) (c : ℕ) (asks : List Ask) (h : List Entry) : Type 0 where
   pub commands : CommandsAnswered c asks 1 h
   pub lane : session_head c h ≡ None
   pub inbox : inbox_of p c h ≡ []
+  pub pings : (client_of p c h).owed ≡ []
 
 abbrev pub ClientsAnswered : Plan → List (List Ask) → ℕ → List Entry → Type 0
 ClientsAnswered p [] c h = Unit {0}
 ClientsAnswered p (x ∷ xs) c h = ClientAnswered p c x h × ClientsAnswered p xs (suc c) h
 
--- each command has its line, every lane is empty and no function is in flight
+-- each command has its line, every lane is empty, no ping is owed and no function is in flight
 pub record AllAnswered (p : Plan) (h : List Entry) : Type 0 where
   pub clients : ClientsAnswered p p.asks 1 h
   pub leader : leader_head h ≡ None
+  pub watch : watch_head h ≡ None
   pub functions : in_flight p h ≡ []
 
 abbrev pub Answered : Deployment → List Entry → Type 0

@@ -1,5 +1,5 @@
 -- The tree that the commits leave, and the stamps of the user records.
-use Rattle.std.specs.Prelude.{ℕ, ◌==◌, Bool, false, if◌then◌else◌, ◌++◌, List, [], ◌∷◌, Option, Some, None, max}
+use Rattle.std.specs.Prelude.{ℕ, ◌==◌, nat_le, Bool, false, if◌then◌else◌, ◌++◌, List, [], ◌∷◌, Option, Some, None, max}
 use Rattle.fk_base.specs.Path.{PathNames, same_path}
 use Rattle.fk_tree.specs.Sorted.{has_path, in_path_order}
 use Rattle.fk_tree.specs.View.{View, start_view}
@@ -87,3 +87,12 @@ stamp_in path _ n = n
 abbrev pub stamp_of : PathNames → List Entry → ℕ
 stamp_of path [] = 0
 stamp_of path (e ∷ h) = stamp_in path e.op (stamp_of path h)
+
+-- the commits that are numbered at most n, in the order of the commits
+abbrev pub up_to : ℕ → List Applied → List Applied
+up_to n [] = []
+up_to n (a ∷ done) = if nat_le a.tx n then a ∷ up_to n done else up_to n done
+
+-- The node of a path's user record: what the commits up to its stamp leave there.
+abbrev pub record_of : Plan → PathNames → List Entry → Option Node
+record_of p path h = (view_after (up_to (stamp_of path h) (committed_of p h))).node path

@@ -1,4 +1,5 @@
 pub mod Apply
+pub mod Ask
 pub mod Check
 pub mod Edit
 pub mod Fill
@@ -8,3 +9,4 @@ pub mod Sorted
 pub mod Touch
 pub mod Tree
 pub mod View
+pub mod Watch
