@@ -23,3 +23,15 @@ pub mod Promises
 pub mod Refusals
 pub mod Lawful
 pub mod Scenarios
+pub mod CreateThenGet
+pub mod RefusalAhead
+pub mod CrashBeforeCommit
+pub mod LockPassedOn
+pub mod LateLeader
+pub mod ReadHeld
+pub mod RegistrationPassed
+pub mod Eviction
+pub mod CloseOfSeveral
+pub mod Failures
+pub mod OwnWatch
+pub mod Multi

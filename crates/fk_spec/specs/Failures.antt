@@ -1,0 +1,64 @@
+-- Services fail: each command is answered so, and the others go on. Each expected entry is copied from the printed history.
+use Rattle.std.specs.Prelude.{◌≡◌, ℕ, pos, negsuc, Bool, true, false, List, [], ◌∷◌, ◌++◌, codes}
+use Rattle.fk_base.specs.declared.code.Code.TheVariants as code
+use Rattle.fk_tree.specs.declared.change.Change.TheVariants as change
+use Rattle.fk_tree.specs.declared.change.Kind.TheVariants as kind
+use Rattle.fk_tree.specs.declared.reply.PartReply.TheVariants as part_reply
+use Rattle.fk_tree.specs.declared.request.Part.TheVariants as part
+use Rattle.fk_print.specs.declared.entry.Entry.{Entry}
+use Rattle.fk_print.specs.declared.event.Event.{Event}
+use Rattle.fk_print.specs.declared.event.Event.TheVariants as event
+use Rattle.fk_print.specs.declared.line.Act.TheVariants as act
+use Rattle.fk_print.specs.declared.line.Line.{Line}
+use Rattle.fk_print.specs.declared.line.Line.TheVariants as line
+use Rattle.fk_print.specs.declared.line.Shown.TheVariants as shown
+use Rattle.fk_print.specs.declared.line.Verb.TheVariants as verb
+use Rattle.fk_print.specs.declared.op.Op.{Op}
+use Rattle.fk_print.specs.declared.op.Op.TheVariants as op
+use Rattle.fk_print.specs.declared.op.Word.TheVariants as word
+use Rattle.fk_script.specs.declared.command.Command.TheVariants as command
+use Rattle.fk_script.specs.declared.command.PartCommand.TheVariants as part_command
+use Rattle.fk_script.specs.declared.deployment.Deployment.{Deployment}
+use Rattle.fk_script.specs.declared.deployment.Turn.TheVariants as turn
+use Rattle.fk_spec.specs.Plan.{Plan, plan_of}
+use Rattle.fk_spec.specs.Next.{next_entry}
+use Rattle.fk_spec.specs.Scenarios.{entry, played}
+
+abbrev pub deployed : Deployment
+deployed = record { config = record { lock = 10; beat = 30 }; clients = (record { name = (codes "a"); commands = ((command.Create (codes "/x") [] false false true) ∷ (command.Get (codes "/") false) ∷ (command.Create (codes "/y") [] false false true) ∷ []) } ∷ []); turns = ((turn.One (event.FailClient 1)) ∷ (turn.One (event.FailClient 1)) ∷ (turn.One (event.Client 1)) ∷ (turn.One (event.Deliver 1)) ∷ (turn.One (event.Fail 1)) ∷ (turn.One (event.Step 1)) ∷ []); scheduled = true }
+
+abbrev pub events : List Event
+events = ((event.FailClient 1) ∷ (event.FailClient 1) ∷ (event.Client 1) ∷ (event.Deliver 1) ∷ (event.Fail 1) ∷ (event.Step 1) ∷ (event.Clock 11) ∷ (event.Deliver 1) ∷ (event.Step 2) ∷ (event.Step 2) ∷ (event.Step 2) ∷ (event.Step 2) ∷ (event.Step 2) ∷ (event.Step 2) ∷ event.Leader ∷ (event.Step 3) ∷ (event.Step 3) ∷ (event.Step 3) ∷ (event.Step 3) ∷ (event.Step 3) ∷ (event.Step 3) ∷ (event.Step 3) ∷ (event.Step 3) ∷ (event.Step 3) ∷ (event.Client 1) ∷ (event.Client 1) ∷ [])
+
+-- the newest first
+abbrev pub entries : List Entry
+entries = entry (event.Client 1) (op.LookOk 1 3 1 ) ((line.Reply 1 3 verb.Create (shown.Created 1 ((codes "y") ∷ []))) ∷ [])
+    ∷ entry (event.Client 1) (op.TakeDone 1 1 1) []
+    ∷ entry (event.Step 3) (op.AckOk 3) []
+    ∷ entry (event.Step 3) (op.DoneOk 3 1) []
+    ∷ entry (event.Step 3) (op.Reply 3 1 1) []
+    ∷ entry (event.Step 3) (op.PublishOk 3 1) ((line.Tx (record { tx = 1; moment = 11; session = 1; k = 1; act = act.Create ((codes "y") ∷ []) [] false false })) ∷ [])
+    ∷ entry (event.Step 3) (op.PutOk 3 1 ((codes "y") ∷ [])) []
+    ∷ entry (event.Step 3) (op.PutOk 3 1 []) []
+    ∷ entry (event.Step 3) (op.SweepOk 3 1 0) []
+    ∷ entry (event.Step 3) (op.PendingYes 3 1) []
+    ∷ entry (event.Step 3) (op.CommitSettled 3 1 1) []
+    ∷ entry event.Leader (op.Leader 3 1) []
+    ∷ entry (event.Step 2) (op.AckOk 2) []
+    ∷ entry (event.Step 2) (op.CommitOk 2 1) []
+    ∷ entry (event.Step 2) (op.Push 2 1) []
+    ∷ entry (event.Step 2) (op.LockOk 2 ((codes "y") ∷ [])) []
+    ∷ entry (event.Step 2) (op.LockOk 2 []) []
+    ∷ entry (event.Step 2) (op.SessionNew 2) []
+    ∷ entry (event.Deliver 1) (op.Follower 2 1 1) []
+    ∷ entry (event.Clock 11) (op.Clock 11) []
+    ∷ entry (event.Step 1) (op.Idle) []
+    ∷ entry (event.Fail 1) (op.Fault 1 word.Session) []
+    ∷ entry (event.Deliver 1) (op.Follower 1 1 1) []
+    ∷ entry (event.Client 1) (op.Send 1 3 1) []
+    ∷ entry (event.FailClient 1) (op.ReadFault 1 2) ((line.Reply 1 2 verb.Get (shown.Plain code.SystemError)) ∷ [])
+    ∷ entry (event.FailClient 1) (op.SendFault 1 1) ((line.Reply 1 1 verb.Create (shown.Plain code.ConnectionLoss)) ∷ [])
+    ∷ []
+
+abbrev pub FailuresIsPlayed : Type 0
+FailuresIsPlayed = played (plan_of deployed) events [] ≡ entries

@@ -1,0 +1,90 @@
+-- A leader that comes late changes nothing. Each expected entry is copied from the printed history.
+use Rattle.std.specs.Prelude.{◌≡◌, ℕ, pos, negsuc, Bool, true, false, List, [], ◌∷◌, ◌++◌, codes}
+use Rattle.fk_base.specs.declared.code.Code.TheVariants as code
+use Rattle.fk_tree.specs.declared.change.Change.TheVariants as change
+use Rattle.fk_tree.specs.declared.change.Kind.TheVariants as kind
+use Rattle.fk_tree.specs.declared.reply.PartReply.TheVariants as part_reply
+use Rattle.fk_tree.specs.declared.request.Part.TheVariants as part
+use Rattle.fk_print.specs.declared.entry.Entry.{Entry}
+use Rattle.fk_print.specs.declared.event.Event.{Event}
+use Rattle.fk_print.specs.declared.event.Event.TheVariants as event
+use Rattle.fk_print.specs.declared.line.Act.TheVariants as act
+use Rattle.fk_print.specs.declared.line.Line.{Line}
+use Rattle.fk_print.specs.declared.line.Line.TheVariants as line
+use Rattle.fk_print.specs.declared.line.Shown.TheVariants as shown
+use Rattle.fk_print.specs.declared.line.Verb.TheVariants as verb
+use Rattle.fk_print.specs.declared.op.Op.{Op}
+use Rattle.fk_print.specs.declared.op.Op.TheVariants as op
+use Rattle.fk_print.specs.declared.op.Word.TheVariants as word
+use Rattle.fk_script.specs.declared.command.Command.TheVariants as command
+use Rattle.fk_script.specs.declared.command.PartCommand.TheVariants as part_command
+use Rattle.fk_script.specs.declared.deployment.Deployment.{Deployment}
+use Rattle.fk_script.specs.declared.deployment.Turn.TheVariants as turn
+use Rattle.fk_spec.specs.Plan.{Plan, plan_of}
+use Rattle.fk_spec.specs.Next.{next_entry}
+use Rattle.fk_spec.specs.Scenarios.{entry, played}
+
+abbrev pub deployed : Deployment
+deployed = record { config = record { lock = 10; beat = 30 }; clients = (record { name = (codes "a"); commands = ((command.Create (codes "/x") [] false false true) ∷ []) } ∷ record { name = (codes "b"); commands = ((command.Create (codes "/y") [] false false true) ∷ []) } ∷ []); turns = ((turn.One (event.Client 1)) ∷ (turn.One (event.Deliver 1)) ∷ (turn.One (event.Step 1)) ∷ (turn.One (event.Step 1)) ∷ (turn.One (event.Step 1)) ∷ (turn.One (event.Step 1)) ∷ (turn.One (event.Step 1)) ∷ (turn.One (event.Step 1)) ∷ (turn.One event.Leader) ∷ (turn.One (event.Step 2)) ∷ (turn.One (event.Step 2)) ∷ (turn.One event.Leader) ∷ (turn.One (event.Step 3)) ∷ (turn.One (event.Step 3)) ∷ (turn.One (event.Step 3)) ∷ (turn.One (event.Step 3)) ∷ (turn.One (event.Step 3)) ∷ (turn.One (event.Step 3)) ∷ (turn.One (event.Step 3)) ∷ (turn.One (event.Step 3)) ∷ (turn.One (event.Step 3)) ∷ (turn.One (event.Client 2)) ∷ (turn.One (event.Deliver 2)) ∷ (turn.One (event.Step 4)) ∷ (turn.One (event.Step 4)) ∷ (turn.One (event.Step 4)) ∷ (turn.One (event.Step 4)) ∷ (turn.One (event.Step 4)) ∷ (turn.One (event.Step 4)) ∷ (turn.One event.Leader) ∷ (turn.One (event.Step 5)) ∷ (turn.One (event.Step 5)) ∷ (turn.One (event.Step 5)) ∷ (turn.One (event.Step 5)) ∷ (turn.One (event.Step 5)) ∷ (turn.One (event.Step 5)) ∷ (turn.One (event.Step 5)) ∷ (turn.One (event.Step 5)) ∷ (turn.One (event.Step 5)) ∷ (turn.One (event.Step 2)) ∷ (turn.One (event.Step 2)) ∷ (turn.One (event.Step 2)) ∷ (turn.One (event.Step 2)) ∷ (turn.One (event.Step 2)) ∷ (turn.One (event.Step 2)) ∷ (turn.One (event.Step 2)) ∷ []); scheduled = true }
+
+abbrev pub events : List Event
+events = ((event.Client 1) ∷ (event.Deliver 1) ∷ (event.Step 1) ∷ (event.Step 1) ∷ (event.Step 1) ∷ (event.Step 1) ∷ (event.Step 1) ∷ (event.Step 1) ∷ event.Leader ∷ (event.Step 2) ∷ (event.Step 2) ∷ event.Leader ∷ (event.Step 3) ∷ (event.Step 3) ∷ (event.Step 3) ∷ (event.Step 3) ∷ (event.Step 3) ∷ (event.Step 3) ∷ (event.Step 3) ∷ (event.Step 3) ∷ (event.Step 3) ∷ (event.Client 2) ∷ (event.Deliver 2) ∷ (event.Step 4) ∷ (event.Step 4) ∷ (event.Step 4) ∷ (event.Step 4) ∷ (event.Step 4) ∷ (event.Step 4) ∷ event.Leader ∷ (event.Step 5) ∷ (event.Step 5) ∷ (event.Step 5) ∷ (event.Step 5) ∷ (event.Step 5) ∷ (event.Step 5) ∷ (event.Step 5) ∷ (event.Step 5) ∷ (event.Step 5) ∷ (event.Step 2) ∷ (event.Step 2) ∷ (event.Step 2) ∷ (event.Step 2) ∷ (event.Step 2) ∷ (event.Step 2) ∷ (event.Step 2) ∷ (event.Clock 11) ∷ (event.Client 1) ∷ (event.Client 1) ∷ (event.Client 1) ∷ (event.Client 2) ∷ (event.Client 2) ∷ [])
+
+-- the newest first
+abbrev pub entries : List Entry
+entries = entry (event.Client 2) (op.LookOk 2 1 2 ) ((line.Reply 2 1 verb.Create (shown.Created 2 ((codes "y") ∷ []))) ∷ [])
+    ∷ entry (event.Client 2) (op.TakeDone 2 1 2) []
+    ∷ entry (event.Client 1) (op.LookOk 1 1 2 ) ((line.Reply 1 1 verb.Create (shown.Created 1 ((codes "x") ∷ []))) ∷ [])
+    ∷ entry (event.Client 1) (op.TakeDone 1 1 1) []
+    ∷ entry (event.Client 1) (op.TakeDone 1 1 1) []
+    ∷ entry (event.Clock 11) (op.Clock 11) []
+    ∷ entry (event.Step 2) (op.AckGone 2) []
+    ∷ entry (event.Step 2) (op.DoneMiss 2 1 2) []
+    ∷ entry (event.Step 2) (op.Reply 2 1 1) []
+    ∷ entry (event.Step 2) (op.PublishMiss 2 1 2) []
+    ∷ entry (event.Step 2) (op.PutMiss 2 1 ((codes "x") ∷ []) 1) []
+    ∷ entry (event.Step 2) (op.PutMiss 2 1 [] 2) []
+    ∷ entry (event.Step 2) (op.SweepMiss 2 1 2 0) []
+    ∷ entry (event.Step 5) (op.AckOk 5) []
+    ∷ entry (event.Step 5) (op.DoneOk 5 2) []
+    ∷ entry (event.Step 5) (op.Reply 5 2 1) []
+    ∷ entry (event.Step 5) (op.PublishOk 5 2) ((line.Tx (record { tx = 2; moment = 0; session = 2; k = 1; act = act.Create ((codes "y") ∷ []) [] false false })) ∷ [])
+    ∷ entry (event.Step 5) (op.PutOk 5 2 ((codes "y") ∷ [])) []
+    ∷ entry (event.Step 5) (op.PutOk 5 2 []) []
+    ∷ entry (event.Step 5) (op.SweepOk 5 2 0) []
+    ∷ entry (event.Step 5) (op.PendingYes 5 2) []
+    ∷ entry (event.Step 5) (op.CommitSettled 5 2 1) []
+    ∷ entry event.Leader (op.Leader 5 2) []
+    ∷ entry (event.Step 4) (op.AckOk 4) []
+    ∷ entry (event.Step 4) (op.CommitOk 4 2) []
+    ∷ entry (event.Step 4) (op.Push 4 2) []
+    ∷ entry (event.Step 4) (op.LockOk 4 ((codes "y") ∷ [])) []
+    ∷ entry (event.Step 4) (op.LockOk 4 []) []
+    ∷ entry (event.Step 4) (op.SessionNew 4) []
+    ∷ entry (event.Deliver 2) (op.Follower 4 2 1) []
+    ∷ entry (event.Client 2) (op.Send 2 1 1) []
+    ∷ entry (event.Step 3) (op.AckOk 3) []
+    ∷ entry (event.Step 3) (op.DoneOk 3 1) []
+    ∷ entry (event.Step 3) (op.Reply 3 1 1) []
+    ∷ entry (event.Step 3) (op.PublishOk 3 1) ((line.Tx (record { tx = 1; moment = 0; session = 1; k = 1; act = act.Create ((codes "x") ∷ []) [] false false })) ∷ [])
+    ∷ entry (event.Step 3) (op.PutOk 3 1 ((codes "x") ∷ [])) []
+    ∷ entry (event.Step 3) (op.PutOk 3 1 []) []
+    ∷ entry (event.Step 3) (op.SweepOk 3 1 0) []
+    ∷ entry (event.Step 3) (op.PendingYes 3 1) []
+    ∷ entry (event.Step 3) (op.CommitSettled 3 1 1) []
+    ∷ entry event.Leader (op.Leader 3 1) []
+    ∷ entry (event.Step 2) (op.PendingYes 2 1) []
+    ∷ entry (event.Step 2) (op.CommitSettled 2 1 1) []
+    ∷ entry event.Leader (op.Leader 2 1) []
+    ∷ entry (event.Step 1) (op.AckOk 1) []
+    ∷ entry (event.Step 1) (op.CommitOk 1 1) []
+    ∷ entry (event.Step 1) (op.Push 1 1) []
+    ∷ entry (event.Step 1) (op.LockOk 1 ((codes "x") ∷ [])) []
+    ∷ entry (event.Step 1) (op.LockOk 1 []) []
+    ∷ entry (event.Step 1) (op.SessionNew 1) []
+    ∷ entry (event.Deliver 1) (op.Follower 1 1 1) []
+    ∷ entry (event.Client 1) (op.Send 1 1 1) []
+    ∷ []
+
+abbrev pub LateLeaderIsPlayed : Type 0
+LateLeaderIsPlayed = played (plan_of deployed) events [] ≡ entries
