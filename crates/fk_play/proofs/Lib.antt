@@ -4,6 +4,7 @@ pub mod CommittedRun
 pub mod CommittedStates
 pub mod Entries
 pub mod Forms
+pub mod Idle
 pub mod Orphan
 pub mod OrphanRun
 pub mod OrphanStates

@@ -1,18 +1,22 @@
 -- A deployment of the form that runs, while its drain is played.
-use Rattle.std.proofs.Common.{◌≡◌, ◌<◌, ◌≤◌, ℕ, suc, Bool, true, false, List, [], ◌∷◌, Option, Some, None, length, refl, sym, subst, arith}
+use Rattle.std.proofs.Common.{◌≡◌, ◌<◌, ◌≤◌, ◌+◌, ℕ, suc, Bool, true, false, List, [], ◌∷◌, Option, Some, None, length, refl, sym, subst, lit≤, arith}
+use Rattle.std.proofs.Math.Nat.{max-zero}
 use Rattle.std.proofs.lemmas.Bool.{false≢true}
 use Rattle.fk_base.specs.Path.{PathNames}
 use Rattle.fk_print.specs.declared.event.Event.{Event}
 use Rattle.fk_script.specs.declared.deployment.Deployment.{Deployment}
 use Rattle.fk_spec.specs.Plan.{item_after, plan_of}
-use Rattle.fk_play.specs.Built.{AsksOne, create_plan, one_ask, want_for}
+use Rattle.fk_play.specs.Built.{AsksFor, commands_of, create_plan, plan_for}
 use Rattle.fk_play.specs.Engine.{State, Takes, clock_step, event_step, next_event, start_state}
 use Rattle.fk_play.specs.Run.{IsRunOf}
+use Rattle.fk_play.specs.declared.message.Asked.{Asked}
+use Rattle.fk_play.specs.declared.message.Asked.TheVariants as asked
 use Rattle.fk_play.specs.declared.message.Wanted.{Wanted}
 use Rattle.fk_play.specs.declared.message.Wanted.TheVariants as wanted
 use Rattle.fk_play.proofs.Chains.{Chain, Counted, advances, counts, ends_last, last_of, never_stuck, within}
 use Rattle.fk_play.proofs.CommittedRun as committed
 use Rattle.fk_play.proofs.CommittedStates as committed_states
+use Rattle.fk_play.proofs.Idle as idle
 use Rattle.fk_play.proofs.OrphanRun as orphan
 use Rattle.fk_play.proofs.OrphanStates as orphan_states
 use Rattle.fk_play.proofs.RootRun as root
@@ -32,53 +36,70 @@ pub record Playing (d : Deployment) (s : State) : Type 0 where
   pub place : ℕ
   pub at : item_after (first ∷ later) place ≡ Some s
 
-create_starts : (d : Deployment) (path : PathNames) (bytes : List ℕ) → plan_of d ≡ create_plan d.config.beat path bytes → d.turns ≡ [] → Playing d (clock_step 11 (start_state 10 (wanted.Create (record { path = path; bytes = bytes }) ∷ [])))
-create_starts d [] bytes p t = record {
-  first = root_states.state1 bytes;
-  later = root_states.later bytes;
-  chain = root_states.chain bytes;
-  counted = root_states.counted bytes;
-  few = root_states.few bytes;
-  run = root.run d bytes p t;
+create_starts : (d : Deployment) (now : ℕ) (wait : Bool) (path : PathNames) (bytes : List ℕ) → plan_of d ≡ create_plan d.config.lock d.config.beat wait path bytes → d.turns ≡ [] → now ≡ d.config.lock + 1 → Playing d (clock_step now (start_state d.config.lock (wanted.Create (record { path = path; bytes = bytes }) ∷ [])))
+create_starts d now wait [] bytes p t l = record {
+  first = root_states.state1 d.config.lock now bytes;
+  later = root_states.later d.config.lock now bytes;
+  chain = root_states.chain d.config.lock now bytes;
+  counted = root_states.counted d.config.lock now bytes;
+  few = root_states.few d.config.lock now bytes;
+  run = root.run d now wait bytes p t l;
   place = 0;
-  at = refl;
+  at = rw (max-zero now) refl;
 }
-create_starts d (n ∷ []) bytes p t = record {
-  first = committed_states.state1 n bytes;
-  later = committed_states.later n bytes;
-  chain = committed_states.chain n bytes;
-  counted = committed_states.counted n bytes;
-  few = committed_states.few n bytes;
-  run = committed.run d n bytes p t;
+create_starts d now wait (n ∷ []) bytes p t l = record {
+  first = committed_states.state1 d.config.lock now n bytes;
+  later = committed_states.later d.config.lock now n bytes;
+  chain = committed_states.chain d.config.lock now n bytes;
+  counted = committed_states.counted d.config.lock now n bytes;
+  few = committed_states.few d.config.lock now n bytes;
+  run = committed.run d now wait n bytes p t l;
   place = 0;
-  at = refl;
+  at = rw (max-zero now) refl;
 }
-create_starts d (n ∷ m ∷ q) bytes p t = record {
-  first = orphan_states.state1 n m q bytes;
-  later = orphan_states.later n m q bytes;
-  chain = orphan_states.chain n m q bytes;
-  counted = orphan_states.counted n m q bytes;
-  few = orphan_states.few n m q bytes;
-  run = orphan.run d n m q bytes p t;
+create_starts d now wait (n ∷ m ∷ q) bytes p t l = record {
+  first = orphan_states.state1 d.config.lock now n m q bytes;
+  later = orphan_states.later d.config.lock now n m q bytes;
+  chain = orphan_states.chain d.config.lock now n m q bytes;
+  counted = orphan_states.counted d.config.lock now n m q bytes;
+  few = orphan_states.few d.config.lock now n m q bytes;
+  run = orphan.run d now wait n m q bytes p t l;
   place = 0;
-  at = refl;
-}
-
-one_starts : (d : Deployment) (w : Wanted) → plan_of d ≡ one_ask d.config.beat (want_for w) → d.turns ≡ [] → Playing d (clock_step 11 (start_state 10 (w ∷ [])))
-one_starts d (wanted.Create c) p t = create_starts d c.path c.bytes p t
-one_starts d wanted.Unfit p t = record {
-  first = unfit_states.state1;
-  later = unfit_states.later;
-  chain = unfit_states.chain;
-  counted = unfit_states.counted;
-  few = unfit_states.few;
-  run = unfit.run d p t;
-  place = 0;
-  at = refl;
+  at = rw (max-zero now) refl;
 }
 
-pub starts_playing : (d : Deployment) (w : Wanted) (ws : List Wanted) (lock : ℕ) (s t : State) → AsksOne d w → ws ≡ w ∷ [] → lock ≡ 10 → s ≡ start_state lock ws → t ≡ clock_step 11 s → Playing d t
-starts_playing d w ws lock s t o e l i j = rw (j, i, e, l) (one_starts d w o.plan o.turns)
+idle_starts : (d : Deployment) (now : ℕ) (wait client : Bool) → plan_of d ≡ plan_for d.config.lock d.config.beat wait (idle.idle client) → d.turns ≡ [] → now ≡ d.config.lock + 1 → Playing d (clock_step now (start_state d.config.lock []))
+idle_starts d now wait client p t l = record {
+  first = idle.state1 d.config.lock now;
+  later = [];
+  chain = idle.chain d.config.lock now;
+  counted = idle.counted d.config.lock now;
+  few = lit≤ tt;
+  run = idle.run d now wait client p t l;
+  place = 0;
+  at = rw (max-zero now) refl;
+}
+
+starts : (d : Deployment) (now : ℕ) (wait : Bool) (a : Asked) → plan_of d ≡ plan_for d.config.lock d.config.beat wait a → d.turns ≡ [] → now ≡ d.config.lock + 1 → Playing d (clock_step now (start_state d.config.lock (commands_of a)))
+starts d now wait asked.NoClient p t l = idle_starts d now wait false p t l
+starts d now wait asked.NoCommand p t l = idle_starts d now wait true p t l
+starts d now wait (asked.One (wanted.Create c)) p t l = create_starts d now wait c.path c.bytes p t l
+starts d now wait (asked.One wanted.Unfit) p t l = record {
+  first = unfit_states.state1 d.config.lock now;
+  later = unfit_states.later d.config.lock now;
+  chain = unfit_states.chain d.config.lock now;
+  counted = unfit_states.counted d.config.lock now;
+  few = unfit_states.few d.config.lock now;
+  run = unfit.run d now wait p t l;
+  place = 0;
+  at = rw (max-zero now) refl;
+}
+
+plan_is : (d : Deployment) (a : Asked) (o : AsksFor d a) → plan_of d ≡ plan_for d.config.lock d.config.beat o.wait a
+plan_is d a o = rw o.asks refl
+
+pub starts_playing : (d : Deployment) (a : Asked) (ws : List Wanted) (s t : State) → AsksFor d a → ws ≡ commands_of a → s ≡ start_state d.config.lock ws → t ≡ clock_step (d.config.lock + 1) s → Playing d t
+starts_playing d a ws s t o e i j = rw (j, i, e) (starts d (d.config.lock + 1) o.wait a (plan_is d a o) o.turns refl)
 
 pub goes_on_playing : (d : Deployment) (s t : State) (e : Event) → Playing d s → next_event s ≡ Some e → event_step e s ≡ Some t → Playing d t
 goes_on_playing d s t e x n m = record {

@@ -33,72 +33,72 @@ views bytes = view_of_row (row_of [] start_records.rows) ∷ []
 abbrev refusing : List ℕ → Running
 refusing bytes = record (locking bytes) { stage = stage.Refuse; views = views bytes; refusal = Some refusal }
 
-abbrev pub state1 : List ℕ → State
-state1 bytes = record (start_state 10 (wanted.Create (create bytes) ∷ [])) { clock = 11; past = course.after1 bytes }
+abbrev pub state1 : ℕ → ℕ → List ℕ → State
+state1 lock now bytes = record (start_state lock (wanted.Create (create bytes) ∷ [])) { clock = now; past = course.after1 now bytes }
 
-abbrev pub state2 : List ℕ → State
-state2 bytes = record (state1 bytes) { sends = 1; lane = message bytes ∷ []; commands = []; begun = 1; unanswered = record { command = 1; k = 1; result = None } ∷ []; past = course.after2 bytes }
+abbrev pub state2 : ℕ → ℕ → List ℕ → State
+state2 lock now bytes = record (state1 lock now bytes) { sends = 1; lane = message bytes ∷ []; commands = []; begun = 1; unanswered = record { command = 1; k = 1; result = None } ∷ []; past = course.after2 now bytes }
 
-abbrev pub state3 : List ℕ → State
-state3 bytes = record (state2 bytes) { started = 1; running = Some (begun_as 1 1 stage.Session); past = course.after3 bytes }
+abbrev pub state3 : ℕ → ℕ → List ℕ → State
+state3 lock now bytes = record (state2 lock now bytes) { started = 1; running = Some (begun_as 1 1 stage.Session); past = course.after3 now bytes }
 
-abbrev pub state4 : List ℕ → State
-state4 bytes = record (state3 bytes) { running = Some (locking bytes); past = course.after4 bytes }
+abbrev pub state4 : ℕ → ℕ → List ℕ → State
+state4 lock now bytes = record (state3 lock now bytes) { running = Some (locking bytes); past = course.after4 now bytes }
 
-abbrev pub state5 : List ℕ → State
-state5 bytes = record (state4 bytes) { table = granted [] 1 11 start_records; running = Some (refusing bytes); past = course.after5 bytes }
+abbrev pub state5 : ℕ → ℕ → List ℕ → State
+state5 lock now bytes = record (state4 lock now bytes) { table = granted [] 1 now start_records; running = Some (refusing bytes); past = course.after5 now bytes }
 
-abbrev pub state6 : List ℕ → State
-state6 bytes = record (state5 bytes) { table = refused 1 ([] ∷ []) (state5 bytes).table; running = Some (record (refusing bytes) { stage = stage.Tell }); past = course.after6 bytes }
+abbrev pub state6 : ℕ → ℕ → List ℕ → State
+state6 lock now bytes = record (state5 lock now bytes) { table = refused 1 ([] ∷ []) (state5 lock now bytes).table; running = Some (record (refusing bytes) { stage = stage.Tell }); past = course.after6 now bytes }
 
-abbrev pub state7 : List ℕ → State
-state7 bytes = record (state6 bytes) { inbox = record { k = 1; outcome = outcome.Refused refusal } ∷ []; running = Some (record (refusing bytes) { stage = stage.Ack }); past = course.after7 bytes }
+abbrev pub state7 : ℕ → ℕ → List ℕ → State
+state7 lock now bytes = record (state6 lock now bytes) { inbox = record { k = 1; outcome = outcome.Refused refusal } ∷ []; running = Some (record (refusing bytes) { stage = stage.Ack }); past = course.after7 now bytes }
 
-abbrev pub state8 : List ℕ → State
-state8 bytes = record (state7 bytes) { lane = []; running = None; past = course.after8 bytes }
+abbrev pub state8 : ℕ → ℕ → List ℕ → State
+state8 lock now bytes = record (state7 lock now bytes) { lane = []; running = None; past = course.after8 now bytes }
 
-abbrev pub state9 : List ℕ → State
-state9 bytes = record (state8 bytes) { inbox = []; unanswered = record { command = 1; k = 1; result = Some (outcome.Refused refusal) } ∷ []; past = course.after9 bytes }
+abbrev pub state9 : ℕ → ℕ → List ℕ → State
+state9 lock now bytes = record (state8 lock now bytes) { inbox = []; unanswered = record { command = 1; k = 1; result = Some (outcome.Refused refusal) } ∷ []; past = course.after9 now bytes }
 
-abbrev pub state10 : List ℕ → State
-state10 bytes = record (state9 bytes) { unanswered = []; past = course.after10 bytes }
+abbrev pub state10 : ℕ → ℕ → List ℕ → State
+state10 lock now bytes = record (state9 lock now bytes) { unanswered = []; past = course.after10 now bytes }
 
-steps1 : (bytes : List ℕ) → event_step (event.Client 1) (state1 bytes) ≡ Some (state2 bytes)
-steps1 bytes = refl
+steps1 : (lock now : ℕ) (bytes : List ℕ) → event_step (event.Client 1) (state1 lock now bytes) ≡ Some (state2 lock now bytes)
+steps1 lock now bytes = refl
 
-steps2 : (bytes : List ℕ) → event_step (event.Deliver 1) (state2 bytes) ≡ Some (state3 bytes)
-steps2 bytes = refl
+steps2 : (lock now : ℕ) (bytes : List ℕ) → event_step (event.Deliver 1) (state2 lock now bytes) ≡ Some (state3 lock now bytes)
+steps2 lock now bytes = refl
 
-steps3 : (bytes : List ℕ) → event_step (event.Step 1) (state3 bytes) ≡ Some (state4 bytes)
-steps3 bytes = refl
+steps3 : (lock now : ℕ) (bytes : List ℕ) → event_step (event.Step 1) (state3 lock now bytes) ≡ Some (state4 lock now bytes)
+steps3 lock now bytes = refl
 
-steps4 : (bytes : List ℕ) → event_step (event.Step 1) (state4 bytes) ≡ Some (state5 bytes)
-steps4 bytes = refl
+steps4 : (lock now : ℕ) (bytes : List ℕ) → event_step (event.Step 1) (state4 lock now bytes) ≡ Some (state5 lock now bytes)
+steps4 lock now bytes = refl
 
-steps5 : (bytes : List ℕ) → event_step (event.Step 1) (state5 bytes) ≡ Some (state6 bytes)
-steps5 bytes = refl
+steps5 : (lock now : ℕ) (bytes : List ℕ) → event_step (event.Step 1) (state5 lock now bytes) ≡ Some (state6 lock now bytes)
+steps5 lock now bytes = refl
 
-steps6 : (bytes : List ℕ) → event_step (event.Step 1) (state6 bytes) ≡ Some (state7 bytes)
-steps6 bytes = refl
+steps6 : (lock now : ℕ) (bytes : List ℕ) → event_step (event.Step 1) (state6 lock now bytes) ≡ Some (state7 lock now bytes)
+steps6 lock now bytes = refl
 
-steps7 : (bytes : List ℕ) → event_step (event.Step 1) (state7 bytes) ≡ Some (state8 bytes)
-steps7 bytes = refl
+steps7 : (lock now : ℕ) (bytes : List ℕ) → event_step (event.Step 1) (state7 lock now bytes) ≡ Some (state8 lock now bytes)
+steps7 lock now bytes = refl
 
-steps8 : (bytes : List ℕ) → event_step (event.Client 1) (state8 bytes) ≡ Some (state9 bytes)
-steps8 bytes = refl
+steps8 : (lock now : ℕ) (bytes : List ℕ) → event_step (event.Client 1) (state8 lock now bytes) ≡ Some (state9 lock now bytes)
+steps8 lock now bytes = refl
 
-steps9 : (bytes : List ℕ) → event_step (event.Client 1) (state9 bytes) ≡ Some (state10 bytes)
-steps9 bytes = refl
+steps9 : (lock now : ℕ) (bytes : List ℕ) → event_step (event.Client 1) (state9 lock now bytes) ≡ Some (state10 lock now bytes)
+steps9 lock now bytes = refl
 
 -- the states after the first
-abbrev pub later : List ℕ → List State
-later bytes = state2 bytes ∷ state3 bytes ∷ state4 bytes ∷ state5 bytes ∷ state6 bytes ∷ state7 bytes ∷ state8 bytes ∷ state9 bytes ∷ state10 bytes ∷ []
+abbrev pub later : ℕ → ℕ → List ℕ → List State
+later lock now bytes = state2 lock now bytes ∷ state3 lock now bytes ∷ state4 lock now bytes ∷ state5 lock now bytes ∷ state6 lock now bytes ∷ state7 lock now bytes ∷ state8 lock now bytes ∷ state9 lock now bytes ∷ state10 lock now bytes ∷ []
 
-pub chain : (bytes : List ℕ) → Chain (state1 bytes ∷ later bytes)
-chain bytes = ((event.Client 1, refl, steps1 bytes), ((event.Deliver 1, refl, steps2 bytes), ((event.Step 1, refl, steps3 bytes), ((event.Step 1, refl, steps4 bytes), ((event.Step 1, refl, steps5 bytes), ((event.Step 1, refl, steps6 bytes), ((event.Step 1, refl, steps7 bytes), ((event.Client 1, refl, steps8 bytes), ((event.Client 1, refl, steps9 bytes), refl)))))))))
+pub chain : (lock now : ℕ) (bytes : List ℕ) → Chain (state1 lock now bytes ∷ later lock now bytes)
+chain lock now bytes = ((event.Client 1, refl, steps1 lock now bytes), ((event.Deliver 1, refl, steps2 lock now bytes), ((event.Step 1, refl, steps3 lock now bytes), ((event.Step 1, refl, steps4 lock now bytes), ((event.Step 1, refl, steps5 lock now bytes), ((event.Step 1, refl, steps6 lock now bytes), ((event.Step 1, refl, steps7 lock now bytes), ((event.Client 1, refl, steps8 lock now bytes), ((event.Client 1, refl, steps9 lock now bytes), refl)))))))))
 
-pub counted : (bytes : List ℕ) → Counted 1 (state1 bytes ∷ later bytes)
-counted bytes = (refl, (refl, (refl, (refl, (refl, (refl, (refl, (refl, (refl, (refl, tt))))))))))
+pub counted : (lock now : ℕ) (bytes : List ℕ) → Counted 1 (state1 lock now bytes ∷ later lock now bytes)
+counted lock now bytes = (refl, (refl, (refl, (refl, (refl, (refl, (refl, (refl, (refl, (refl, tt))))))))))
 
-pub few : (bytes : List ℕ) → length (later bytes) ≤ 20
-few bytes = lit≤ tt
+pub few : (lock now : ℕ) (bytes : List ℕ) → length (later lock now bytes) ≤ 20
+few lock now bytes = lit≤ tt

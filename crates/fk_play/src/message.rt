@@ -63,6 +63,15 @@ pub(crate) enum Wanted {
     Unfit,
 }
 
+/// What the clients of a deployment ask for, where it runs.
+#[derive(Drop)]
+pub(crate) enum Asked {
+    NoClient,
+    /// One client without a command.
+    NoCommand,
+    One(Wanted),
+}
+
 /// A command that was sent and isn't answered, with what came of it once that is known.
 #[derive(Drop)]
 pub(crate) struct Waiting {

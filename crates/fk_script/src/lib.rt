@@ -4,10 +4,13 @@
 mod command;
 mod deployment;
 mod lists;
+mod place;
+mod why;
 
 pub use command::{Command, PartCommand};
 pub use deployment::{Block, Deployment, Turn};
 pub use lists::{Clients, Commands, PartCommands, Turns};
+pub use why::Why;
 
 #[cfg(test)]
 mod tests;

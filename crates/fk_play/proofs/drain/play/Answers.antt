@@ -1,10 +1,10 @@
-use Rattle.std.proofs.Common.{refl, sym, arith}
+use Rattle.std.proofs.Common.{sym, arith}
 use Rattle.fk_play.proofs.Playing.{starts_playing, goes_on_playing, playing_built, playing_short, playing_longer, playing_done, took, took_none}
 use Rattle.fk_play.proofs.drain.play.Goals as goal
 
 pub draining-init : goal.draining-init
 draining-init c =
-    starts_playing c.args.deployment.now c.in-Some.wanted c.push.new.self.items 10 c.in_ok-engine.engine c.clock.new.self (rw c.in-Some.is at c.in_ok-wanted.ensures.found) (rw (c.in_ok-push.ensures.items, c.new-commands.ensures.items) refl) refl c.in_ok-engine.ensures c.in_ok-clock.ensures
+    starts_playing c.args.deployment.now c.in-Some.asked c.in_ok-commands_of.field-0.items c.in_ok-engine.engine c.clock.new.self (rw c.in-Some.is at c.in_ok-asked.ensures.found) c.in_ok-commands_of.ensures c.in_ok-engine.ensures c.in_ok-clock.ensures
 
 pub prove-unreachable-requires : goal.prove-unreachable-requires
 prove-unreachable-requires c =
