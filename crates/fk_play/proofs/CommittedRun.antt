@@ -8,13 +8,13 @@ use Rattle.fk_tree.specs.View.{look}
 use Rattle.fk_tree.specs.declared.request.Request.TheVariants as request
 use Rattle.fk_script.specs.declared.deployment.Deployment.{Deployment}
 use Rattle.fk_spec.specs.Plan.{Plan, plan_of}
-use Rattle.fk_spec.specs.Promises.{IsLawful, Promises}
+use Rattle.fk_spec.specs.Lawful.{IsLawful, Promises}
 use Rattle.fk_spec.specs.Schedule.{AllAnswered, Drains, Empties, Emptied, Goes}
 use Rattle.fk_play.specs.Run.{IsRunOf}
 use Rattle.fk_play.proofs.Committed as course
 use Rattle.fk_play.proofs.Paths.{same}
 use Rattle.fk_play.proofs.Entries.{drain_moment}
-use Rattle.fk_play.proofs.Silence.{silent_earlier, silent_refusals, silent_replies}
+use Rattle.fk_play.proofs.Silence.{silent_refusals}
 use Rattle.fk_play.proofs.StartTree.{start_none, start_root}
 
 -- a create right under the root passes on the tree as it starts
@@ -22,70 +22,73 @@ passes : (n : Name) (bytes : List ℕ) → check (look start_tree) 1 (request.Cr
 passes n bytes = rw (start_root, start_none n []) refl
 
 promises1 : (lock beat now : ℕ) (wait : Bool) (n : Name) (bytes : List ℕ) → Promises (course.plan lock beat wait n bytes) (course.after1 now n bytes)
-promises1 lock beat now wait n bytes = record { once = tt; replies = silent_replies (course.plan lock beat wait n bytes) (course.after1 now n bytes) (course.after1 now n bytes) refl; refusals = silent_refusals (course.plan lock beat wait n bytes) (course.after1 now n bytes) (course.after1 now n bytes) refl }
+promises1 lock beat now wait n bytes = record { once = tt; replies = tt; view = tt; notices = tt; watches = tt; refusals = silent_refusals (course.plan lock beat wait n bytes) (course.after1 now n bytes) (course.after1 now n bytes) refl }
 
 promises2 : (lock beat now : ℕ) (wait : Bool) (n : Name) (bytes : List ℕ) → Promises (course.plan lock beat wait n bytes) (course.after2 now n bytes)
-promises2 lock beat now wait n bytes = record { once = tt; replies = silent_replies (course.plan lock beat wait n bytes) (course.after2 now n bytes) (course.after2 now n bytes) refl; refusals = silent_refusals (course.plan lock beat wait n bytes) (course.after2 now n bytes) (course.after2 now n bytes) refl }
+promises2 lock beat now wait n bytes = record { once = tt; replies = tt; view = tt; notices = tt; watches = tt; refusals = silent_refusals (course.plan lock beat wait n bytes) (course.after2 now n bytes) (course.after2 now n bytes) refl }
 
 promises3 : (lock beat now : ℕ) (wait : Bool) (n : Name) (bytes : List ℕ) → Promises (course.plan lock beat wait n bytes) (course.after3 now n bytes)
-promises3 lock beat now wait n bytes = record { once = tt; replies = silent_replies (course.plan lock beat wait n bytes) (course.after3 now n bytes) (course.after3 now n bytes) refl; refusals = silent_refusals (course.plan lock beat wait n bytes) (course.after3 now n bytes) (course.after3 now n bytes) refl }
+promises3 lock beat now wait n bytes = record { once = tt; replies = tt; view = tt; notices = tt; watches = tt; refusals = silent_refusals (course.plan lock beat wait n bytes) (course.after3 now n bytes) (course.after3 now n bytes) refl }
 
 promises4 : (lock beat now : ℕ) (wait : Bool) (n : Name) (bytes : List ℕ) → Promises (course.plan lock beat wait n bytes) (course.after4 now n bytes)
-promises4 lock beat now wait n bytes = record { once = tt; replies = silent_replies (course.plan lock beat wait n bytes) (course.after4 now n bytes) (course.after4 now n bytes) refl; refusals = silent_refusals (course.plan lock beat wait n bytes) (course.after4 now n bytes) (course.after4 now n bytes) refl }
+promises4 lock beat now wait n bytes = record { once = tt; replies = tt; view = tt; notices = tt; watches = tt; refusals = silent_refusals (course.plan lock beat wait n bytes) (course.after4 now n bytes) (course.after4 now n bytes) refl }
 
 promises5 : (lock beat now : ℕ) (wait : Bool) (n : Name) (bytes : List ℕ) → Promises (course.plan lock beat wait n bytes) (course.after5 now n bytes)
-promises5 lock beat now wait n bytes = record { once = tt; replies = silent_replies (course.plan lock beat wait n bytes) (course.after5 now n bytes) (course.after5 now n bytes) refl; refusals = silent_refusals (course.plan lock beat wait n bytes) (course.after5 now n bytes) (course.after5 now n bytes) refl }
+promises5 lock beat now wait n bytes = record { once = tt; replies = tt; view = tt; notices = tt; watches = tt; refusals = silent_refusals (course.plan lock beat wait n bytes) (course.after5 now n bytes) (course.after5 now n bytes) refl }
 
 promises6 : (lock beat now : ℕ) (wait : Bool) (n : Name) (bytes : List ℕ) → Promises (course.plan lock beat wait n bytes) (course.after6 now n bytes)
-promises6 lock beat now wait n bytes = record { once = tt; replies = silent_replies (course.plan lock beat wait n bytes) (course.after6 now n bytes) (course.after6 now n bytes) refl; refusals = silent_refusals (course.plan lock beat wait n bytes) (course.after6 now n bytes) (course.after6 now n bytes) refl }
+promises6 lock beat now wait n bytes = record { once = tt; replies = tt; view = tt; notices = tt; watches = tt; refusals = silent_refusals (course.plan lock beat wait n bytes) (course.after6 now n bytes) (course.after6 now n bytes) refl }
 
 promises7 : (lock beat now : ℕ) (wait : Bool) (n : Name) (bytes : List ℕ) → Promises (course.plan lock beat wait n bytes) (course.after7 now n bytes)
-promises7 lock beat now wait n bytes = record { once = tt; replies = silent_replies (course.plan lock beat wait n bytes) (course.after7 now n bytes) (course.after7 now n bytes) refl; refusals = silent_refusals (course.plan lock beat wait n bytes) (course.after7 now n bytes) (course.after7 now n bytes) refl }
+promises7 lock beat now wait n bytes = record { once = tt; replies = tt; view = tt; notices = tt; watches = tt; refusals = silent_refusals (course.plan lock beat wait n bytes) (course.after7 now n bytes) (course.after7 now n bytes) refl }
 
 promises8 : (lock beat now : ℕ) (wait : Bool) (n : Name) (bytes : List ℕ) → Promises (course.plan lock beat wait n bytes) (course.after8 now n bytes)
-promises8 lock beat now wait n bytes = record { once = tt; replies = silent_replies (course.plan lock beat wait n bytes) (course.after8 now n bytes) (course.after8 now n bytes) refl; refusals = silent_refusals (course.plan lock beat wait n bytes) (course.after8 now n bytes) (course.after8 now n bytes) refl }
+promises8 lock beat now wait n bytes = record { once = tt; replies = tt; view = tt; notices = tt; watches = tt; refusals = silent_refusals (course.plan lock beat wait n bytes) (course.after8 now n bytes) (course.after8 now n bytes) refl }
 
 promises9 : (lock beat now : ℕ) (wait : Bool) (n : Name) (bytes : List ℕ) → Promises (course.plan lock beat wait n bytes) (course.after9 now n bytes)
-promises9 lock beat now wait n bytes = record { once = tt; replies = silent_replies (course.plan lock beat wait n bytes) (course.after9 now n bytes) (course.after9 now n bytes) refl; refusals = silent_refusals (course.plan lock beat wait n bytes) (course.after9 now n bytes) (course.after9 now n bytes) refl }
+promises9 lock beat now wait n bytes = record { once = tt; replies = tt; view = tt; notices = tt; watches = tt; refusals = silent_refusals (course.plan lock beat wait n bytes) (course.after9 now n bytes) (course.after9 now n bytes) refl }
 
 promises10 : (lock beat now : ℕ) (wait : Bool) (n : Name) (bytes : List ℕ) → Promises (course.plan lock beat wait n bytes) (course.after10 now n bytes)
-promises10 lock beat now wait n bytes = record { once = tt; replies = silent_replies (course.plan lock beat wait n bytes) (course.after10 now n bytes) (course.after10 now n bytes) refl; refusals = silent_refusals (course.plan lock beat wait n bytes) (course.after10 now n bytes) (course.after10 now n bytes) refl }
+promises10 lock beat now wait n bytes = record { once = tt; replies = tt; view = tt; notices = tt; watches = tt; refusals = silent_refusals (course.plan lock beat wait n bytes) (course.after10 now n bytes) (course.after10 now n bytes) refl }
 
 promises11 : (lock beat now : ℕ) (wait : Bool) (n : Name) (bytes : List ℕ) → Promises (course.plan lock beat wait n bytes) (course.after11 now n bytes)
-promises11 lock beat now wait n bytes = record { once = tt; replies = silent_replies (course.plan lock beat wait n bytes) (course.after11 now n bytes) (course.after11 now n bytes) refl; refusals = silent_refusals (course.plan lock beat wait n bytes) (course.after11 now n bytes) (course.after11 now n bytes) refl }
+promises11 lock beat now wait n bytes = record { once = tt; replies = tt; view = tt; notices = tt; watches = tt; refusals = silent_refusals (course.plan lock beat wait n bytes) (course.after11 now n bytes) (course.after11 now n bytes) refl }
 
 promises12 : (lock beat now : ℕ) (wait : Bool) (n : Name) (bytes : List ℕ) → Promises (course.plan lock beat wait n bytes) (course.after12 now n bytes)
-promises12 lock beat now wait n bytes = record { once = tt; replies = silent_replies (course.plan lock beat wait n bytes) (course.after12 now n bytes) (course.after12 now n bytes) refl; refusals = silent_refusals (course.plan lock beat wait n bytes) (course.after12 now n bytes) (course.after12 now n bytes) refl }
+promises12 lock beat now wait n bytes = record { once = tt; replies = tt; view = tt; notices = tt; watches = tt; refusals = silent_refusals (course.plan lock beat wait n bytes) (course.after12 now n bytes) (course.after12 now n bytes) refl }
 
 promises13 : (lock beat now : ℕ) (wait : Bool) (n : Name) (bytes : List ℕ) → Promises (course.plan lock beat wait n bytes) (course.after13 now n bytes)
-promises13 lock beat now wait n bytes = record { once = tt; replies = silent_replies (course.plan lock beat wait n bytes) (course.after13 now n bytes) (course.after13 now n bytes) refl; refusals = silent_refusals (course.plan lock beat wait n bytes) (course.after13 now n bytes) (course.after13 now n bytes) refl }
+promises13 lock beat now wait n bytes = record { once = tt; replies = tt; view = tt; notices = tt; watches = tt; refusals = silent_refusals (course.plan lock beat wait n bytes) (course.after13 now n bytes) (course.after13 now n bytes) refl }
 
 promises14 : (lock beat now : ℕ) (wait : Bool) (n : Name) (bytes : List ℕ) → Promises (course.plan lock beat wait n bytes) (course.after14 now n bytes)
-promises14 lock beat now wait n bytes = record { once = tt; replies = silent_replies (course.plan lock beat wait n bytes) (course.after14 now n bytes) (course.after14 now n bytes) refl; refusals = silent_refusals (course.plan lock beat wait n bytes) (course.after14 now n bytes) (course.after14 now n bytes) refl }
+promises14 lock beat now wait n bytes = record { once = tt; replies = tt; view = tt; notices = tt; watches = tt; refusals = silent_refusals (course.plan lock beat wait n bytes) (course.after14 now n bytes) (course.after14 now n bytes) refl }
 
 promises15 : (lock beat now : ℕ) (wait : Bool) (n : Name) (bytes : List ℕ) → Promises (course.plan lock beat wait n bytes) (course.after15 now n bytes)
-promises15 lock beat now wait n bytes = record { once = tt; replies = silent_replies (course.plan lock beat wait n bytes) (course.after15 now n bytes) (course.after15 now n bytes) refl; refusals = silent_refusals (course.plan lock beat wait n bytes) (course.after15 now n bytes) (course.after15 now n bytes) refl }
+promises15 lock beat now wait n bytes = record { once = tt; replies = tt; view = tt; notices = tt; watches = tt; refusals = silent_refusals (course.plan lock beat wait n bytes) (course.after15 now n bytes) (course.after15 now n bytes) refl }
 
 promises16 : (lock beat now : ℕ) (wait : Bool) (n : Name) (bytes : List ℕ) → Promises (course.plan lock beat wait n bytes) (course.after16 now n bytes)
-promises16 lock beat now wait n bytes = record { once = (tt, (rw (max-zero now) refl, passes n bytes), tt); replies = silent_replies (course.plan lock beat wait n bytes) (course.after16 now n bytes) (course.after16 now n bytes) refl; refusals = silent_refusals (course.plan lock beat wait n bytes) (course.after16 now n bytes) (course.after16 now n bytes) refl }
+promises16 lock beat now wait n bytes = record { once = (record { rises = refl; in_order = refl; applied = (rw (max-zero now) refl, passes n bytes) }, tt); replies = (tt, tt); view = (tt, tt); notices = (tt, tt); watches = (tt, tt); refusals = silent_refusals (course.plan lock beat wait n bytes) (course.after16 now n bytes) (course.after16 now n bytes) refl }
 
 promises17 : (lock beat now : ℕ) (wait : Bool) (n : Name) (bytes : List ℕ) → Promises (course.plan lock beat wait n bytes) (course.after17 now n bytes)
-promises17 lock beat now wait n bytes = record { once = (tt, (rw (max-zero now) refl, passes n bytes), tt); replies = silent_replies (course.plan lock beat wait n bytes) (course.after17 now n bytes) (course.after17 now n bytes) refl; refusals = silent_refusals (course.plan lock beat wait n bytes) (course.after17 now n bytes) (course.after17 now n bytes) refl }
+promises17 lock beat now wait n bytes = record { once = (record { rises = refl; in_order = refl; applied = (rw (max-zero now) refl, passes n bytes) }, tt); replies = (tt, tt); view = (tt, tt); notices = (tt, tt); watches = (tt, tt); refusals = silent_refusals (course.plan lock beat wait n bytes) (course.after17 now n bytes) (course.after17 now n bytes) refl }
 
 promises18 : (lock beat now : ℕ) (wait : Bool) (n : Name) (bytes : List ℕ) → Promises (course.plan lock beat wait n bytes) (course.after18 now n bytes)
-promises18 lock beat now wait n bytes = record { once = (tt, (rw (max-zero now) refl, passes n bytes), tt); replies = silent_replies (course.plan lock beat wait n bytes) (course.after18 now n bytes) (course.after18 now n bytes) refl; refusals = silent_refusals (course.plan lock beat wait n bytes) (course.after18 now n bytes) (course.after18 now n bytes) refl }
+promises18 lock beat now wait n bytes = record { once = (record { rises = refl; in_order = refl; applied = (rw (max-zero now) refl, passes n bytes) }, tt); replies = (tt, tt); view = (tt, tt); notices = (tt, tt); watches = (tt, tt); refusals = silent_refusals (course.plan lock beat wait n bytes) (course.after18 now n bytes) (course.after18 now n bytes) refl }
 
 promises19 : (lock beat now : ℕ) (wait : Bool) (n : Name) (bytes : List ℕ) → Promises (course.plan lock beat wait n bytes) (course.after19 now n bytes)
-promises19 lock beat now wait n bytes = record { once = (tt, (rw (max-zero now) refl, passes n bytes), tt); replies = silent_replies (course.plan lock beat wait n bytes) (course.after19 now n bytes) (course.after19 now n bytes) refl; refusals = silent_refusals (course.plan lock beat wait n bytes) (course.after19 now n bytes) (course.after19 now n bytes) refl }
+promises19 lock beat now wait n bytes = record { once = (record { rises = refl; in_order = refl; applied = (rw (max-zero now) refl, passes n bytes) }, tt); replies = (tt, tt); view = (tt, tt); notices = (tt, tt); watches = (tt, tt); refusals = silent_refusals (course.plan lock beat wait n bytes) (course.after19 now n bytes) (course.after19 now n bytes) refl }
 
 promises20 : (lock beat now : ℕ) (wait : Bool) (n : Name) (bytes : List ℕ) → Promises (course.plan lock beat wait n bytes) (course.after20 now n bytes)
-promises20 lock beat now wait n bytes = record { once = (tt, (rw (max-zero now) refl, passes n bytes), tt); replies = silent_replies (course.plan lock beat wait n bytes) (course.after20 now n bytes) (course.after20 now n bytes) refl; refusals = silent_refusals (course.plan lock beat wait n bytes) (course.after20 now n bytes) (course.after20 now n bytes) refl }
+promises20 lock beat now wait n bytes = record { once = (record { rises = refl; in_order = refl; applied = (rw (max-zero now) refl, passes n bytes) }, tt); replies = (tt, tt); view = (tt, tt); notices = (tt, tt); watches = (tt, tt); refusals = silent_refusals (course.plan lock beat wait n bytes) (course.after20 now n bytes) (course.after20 now n bytes) refl }
 
 promises21 : (lock beat now : ℕ) (wait : Bool) (n : Name) (bytes : List ℕ) → Promises (course.plan lock beat wait n bytes) (course.after21 now n bytes)
 promises21 lock beat now wait n bytes = record {
-  once = (tt, (rw (max-zero now) refl, passes n bytes), tt);
-  replies = (((silent_earlier 1 1 (course.after20 now n bytes) refl, refl), tt), silent_replies (course.plan lock beat wait n bytes) (course.after21 now n bytes) (course.after20 now n bytes) refl);
-  refusals = ((refl, tt), silent_refusals (course.plan lock beat wait n bytes) (course.after21 now n bytes) (course.after20 now n bytes) refl);
+  once = (record { rises = refl; in_order = refl; applied = (rw (max-zero now) refl, passes n bytes) }, tt);
+  replies = ((refl, (refl, refl)), (tt, tt));
+  view = (tt, (tt, tt));
+  notices = (tt, (tt, tt));
+  watches = (refl, (tt, tt));
+  refusals = (((refl, tt), tt), silent_refusals (course.plan lock beat wait n bytes) (course.after21 now n bytes) (course.after20 now n bytes) refl);
 }
 
 lawful : (lock beat now : ℕ) (wait : Bool) (n : Name) (bytes : List ℕ) → IsLawful (course.plan lock beat wait n bytes) (course.after21 now n bytes)
@@ -98,7 +101,7 @@ drains : (lock beat now : ℕ) (wait : Bool) (n : Name) (bytes : List ℕ) → n
 drains lock beat now wait n bytes l = record { begun = course.after1 now n bytes; begins = (_, drain_moment lock now l, refl); empties = empties lock beat now wait n bytes }
 
 answered : (lock beat now : ℕ) (wait : Bool) (n : Name) (bytes : List ℕ) → AllAnswered (course.plan lock beat wait n bytes) (course.after21 now n bytes)
-answered lock beat now wait n bytes = record { clients = (record { commands = (refl, tt); lane = refl; inbox = refl }, tt); leader = refl; functions = simp (same n) }
+answered lock beat now wait n bytes = record { clients = (record { commands = (refl, tt); lane = refl; inbox = refl; pings = refl }, tt); leader = refl; watch = refl; functions = simp (same n) }
 
 -- the run of a deployment that comes to this
 pub run : (d : Deployment) (now : ℕ) (wait : Bool) (n : Name) (bytes : List ℕ) → plan_of d ≡ course.plan d.config.lock d.config.beat wait n bytes → d.turns ≡ [] → now ≡ d.config.lock + 1 → IsRunOf d (course.after21 now n bytes)

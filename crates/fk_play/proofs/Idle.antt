@@ -7,7 +7,7 @@ use Rattle.fk_print.specs.declared.op.Op.TheVariants as op
 use Rattle.fk_script.specs.declared.deployment.Deployment.{Deployment}
 use Rattle.fk_spec.specs.Next.{next_entry}
 use Rattle.fk_spec.specs.Plan.{Plan, plan_of}
-use Rattle.fk_spec.specs.Promises.{IsLawful, Promises}
+use Rattle.fk_spec.specs.Lawful.{IsLawful, Promises}
 use Rattle.fk_spec.specs.Schedule.{AllAnswered, Drains, Emptied, next_of_drain}
 use Rattle.fk_play.specs.Built.{plan_for}
 use Rattle.fk_play.specs.Engine.{State, start_state}
@@ -16,7 +16,7 @@ use Rattle.fk_play.specs.declared.message.Asked.{Asked}
 use Rattle.fk_play.specs.declared.message.Asked.TheVariants as asked
 use Rattle.fk_play.proofs.Chains.{Chain, Counted}
 use Rattle.fk_play.proofs.Entries.{drain_moment, entry}
-use Rattle.fk_play.proofs.Silence.{silent_refusals, silent_replies}
+use Rattle.fk_play.proofs.Silence.{silent_refusals}
 
 -- without a client, or with one that has no command
 abbrev pub idle : Bool → Asked
@@ -37,7 +37,7 @@ drained lock beat now wait false = refl
 drained lock beat now wait true = refl
 
 promises1 : (lock beat now : ℕ) (wait client : Bool) → Promises (plan lock beat wait client) (after1 now)
-promises1 lock beat now wait client = record { once = tt; replies = silent_replies (plan lock beat wait client) (after1 now) (after1 now) refl; refusals = silent_refusals (plan lock beat wait client) (after1 now) (after1 now) refl }
+promises1 lock beat now wait client = record { once = tt; replies = tt; view = tt; notices = tt; watches = tt; refusals = silent_refusals (plan lock beat wait client) (after1 now) (after1 now) refl }
 
 lawful : (lock beat now : ℕ) (wait client : Bool) → IsLawful (plan lock beat wait client) (after1 now)
 lawful lock beat now wait client = (tt, follows1 lock beat now wait client, promises1 lock beat now wait client)
@@ -46,8 +46,8 @@ drains : (lock beat now : ℕ) (wait client : Bool) → now ≡ lock + 1 → Dra
 drains lock beat now wait client l = record { begun = after1 now; begins = (_, drain_moment lock now l, refl); empties = Emptied (after1 now) (drained lock beat now wait client) }
 
 answered : (lock beat now : ℕ) (wait client : Bool) → AllAnswered (plan lock beat wait client) (after1 now)
-answered lock beat now wait false = record { clients = tt; leader = refl; functions = refl }
-answered lock beat now wait true = record { clients = (record { commands = tt; lane = refl; inbox = refl }, tt); leader = refl; functions = refl }
+answered lock beat now wait false = record { clients = tt; leader = refl; watch = refl; functions = refl }
+answered lock beat now wait true = record { clients = (record { commands = tt; lane = refl; inbox = refl; pings = refl }, tt); leader = refl; watch = refl; functions = refl }
 
 -- the run of a deployment that comes to this
 pub run : (d : Deployment) (now : ℕ) (wait client : Bool) → plan_of d ≡ plan d.config.lock d.config.beat wait client → d.turns ≡ [] → now ≡ d.config.lock + 1 → IsRunOf d (after1 now)

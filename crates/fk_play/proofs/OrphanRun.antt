@@ -8,57 +8,57 @@ use Rattle.fk_tree.specs.View.{look}
 use Rattle.fk_tree.specs.declared.request.Request.TheVariants as request
 use Rattle.fk_script.specs.declared.deployment.Deployment.{Deployment}
 use Rattle.fk_spec.specs.Plan.{Plan, plan_of}
-use Rattle.fk_spec.specs.Promises.{IsLawful, Promises}
+use Rattle.fk_spec.specs.Lawful.{IsLawful, Promises}
 use Rattle.fk_spec.specs.Schedule.{AllAnswered, Drains, Empties, Emptied, Goes}
 use Rattle.fk_play.specs.Run.{IsRunOf}
 use Rattle.fk_play.proofs.Orphan as course
 use Rattle.fk_play.proofs.Paths.{same, parent_before, child_after, same_paths}
 use Rattle.fk_play.proofs.Entries.{drain_moment}
-use Rattle.fk_play.proofs.Silence.{silent_earlier, silent_refusals, silent_replies}
+use Rattle.fk_play.proofs.Silence.{silent_refusals}
 use Rattle.fk_play.proofs.StartTree.{start_none}
 
 -- its parent is missing on the tree as it starts
 missing : (n m : Name) (q : PathNames) (bytes : List ℕ) → check (look start_tree) 1 (request.Create (n ∷ m ∷ q) bytes false false) ≡ Some (record { code = code.NoNode; place = 0 })
 missing n m q bytes = rw (start_none n (parent (m ∷ q))) refl
 
-none_seen : 0 ≤ 0
-none_seen = omega arith
-
 promises1 : (lock beat now : ℕ) (wait : Bool) (n m : Name) (q : PathNames) (bytes : List ℕ) → Promises (course.plan lock beat wait n m q bytes) (course.after1 now n m q bytes)
-promises1 lock beat now wait n m q bytes = record { once = tt; replies = silent_replies (course.plan lock beat wait n m q bytes) (course.after1 now n m q bytes) (course.after1 now n m q bytes) refl; refusals = silent_refusals (course.plan lock beat wait n m q bytes) (course.after1 now n m q bytes) (course.after1 now n m q bytes) refl }
+promises1 lock beat now wait n m q bytes = record { once = tt; replies = tt; view = tt; notices = tt; watches = tt; refusals = silent_refusals (course.plan lock beat wait n m q bytes) (course.after1 now n m q bytes) (course.after1 now n m q bytes) refl }
 
 promises2 : (lock beat now : ℕ) (wait : Bool) (n m : Name) (q : PathNames) (bytes : List ℕ) → Promises (course.plan lock beat wait n m q bytes) (course.after2 now n m q bytes)
-promises2 lock beat now wait n m q bytes = record { once = tt; replies = silent_replies (course.plan lock beat wait n m q bytes) (course.after2 now n m q bytes) (course.after2 now n m q bytes) refl; refusals = silent_refusals (course.plan lock beat wait n m q bytes) (course.after2 now n m q bytes) (course.after2 now n m q bytes) refl }
+promises2 lock beat now wait n m q bytes = record { once = tt; replies = tt; view = tt; notices = tt; watches = tt; refusals = silent_refusals (course.plan lock beat wait n m q bytes) (course.after2 now n m q bytes) (course.after2 now n m q bytes) refl }
 
 promises3 : (lock beat now : ℕ) (wait : Bool) (n m : Name) (q : PathNames) (bytes : List ℕ) → Promises (course.plan lock beat wait n m q bytes) (course.after3 now n m q bytes)
-promises3 lock beat now wait n m q bytes = record { once = tt; replies = silent_replies (course.plan lock beat wait n m q bytes) (course.after3 now n m q bytes) (course.after3 now n m q bytes) refl; refusals = silent_refusals (course.plan lock beat wait n m q bytes) (course.after3 now n m q bytes) (course.after3 now n m q bytes) refl }
+promises3 lock beat now wait n m q bytes = record { once = tt; replies = tt; view = tt; notices = tt; watches = tt; refusals = silent_refusals (course.plan lock beat wait n m q bytes) (course.after3 now n m q bytes) (course.after3 now n m q bytes) refl }
 
 promises4 : (lock beat now : ℕ) (wait : Bool) (n m : Name) (q : PathNames) (bytes : List ℕ) → Promises (course.plan lock beat wait n m q bytes) (course.after4 now n m q bytes)
-promises4 lock beat now wait n m q bytes = record { once = tt; replies = silent_replies (course.plan lock beat wait n m q bytes) (course.after4 now n m q bytes) (course.after4 now n m q bytes) refl; refusals = silent_refusals (course.plan lock beat wait n m q bytes) (course.after4 now n m q bytes) (course.after4 now n m q bytes) refl }
+promises4 lock beat now wait n m q bytes = record { once = tt; replies = tt; view = tt; notices = tt; watches = tt; refusals = silent_refusals (course.plan lock beat wait n m q bytes) (course.after4 now n m q bytes) (course.after4 now n m q bytes) refl }
 
 promises5 : (lock beat now : ℕ) (wait : Bool) (n m : Name) (q : PathNames) (bytes : List ℕ) → Promises (course.plan lock beat wait n m q bytes) (course.after5 now n m q bytes)
-promises5 lock beat now wait n m q bytes = record { once = tt; replies = silent_replies (course.plan lock beat wait n m q bytes) (course.after5 now n m q bytes) (course.after5 now n m q bytes) refl; refusals = silent_refusals (course.plan lock beat wait n m q bytes) (course.after5 now n m q bytes) (course.after5 now n m q bytes) refl }
+promises5 lock beat now wait n m q bytes = record { once = tt; replies = tt; view = tt; notices = tt; watches = tt; refusals = silent_refusals (course.plan lock beat wait n m q bytes) (course.after5 now n m q bytes) (course.after5 now n m q bytes) refl }
 
 promises6 : (lock beat now : ℕ) (wait : Bool) (n m : Name) (q : PathNames) (bytes : List ℕ) → Promises (course.plan lock beat wait n m q bytes) (course.after6 now n m q bytes)
-promises6 lock beat now wait n m q bytes = record { once = tt; replies = silent_replies (course.plan lock beat wait n m q bytes) (course.after6 now n m q bytes) (course.after6 now n m q bytes) refl; refusals = silent_refusals (course.plan lock beat wait n m q bytes) (course.after6 now n m q bytes) (course.after6 now n m q bytes) refl }
+promises6 lock beat now wait n m q bytes = record { once = tt; replies = tt; view = tt; notices = tt; watches = tt; refusals = silent_refusals (course.plan lock beat wait n m q bytes) (course.after6 now n m q bytes) (course.after6 now n m q bytes) refl }
 
 promises7 : (lock beat now : ℕ) (wait : Bool) (n m : Name) (q : PathNames) (bytes : List ℕ) → Promises (course.plan lock beat wait n m q bytes) (course.after7 now n m q bytes)
-promises7 lock beat now wait n m q bytes = record { once = tt; replies = silent_replies (course.plan lock beat wait n m q bytes) (course.after7 now n m q bytes) (course.after7 now n m q bytes) refl; refusals = silent_refusals (course.plan lock beat wait n m q bytes) (course.after7 now n m q bytes) (course.after7 now n m q bytes) refl }
+promises7 lock beat now wait n m q bytes = record { once = tt; replies = tt; view = tt; notices = tt; watches = tt; refusals = silent_refusals (course.plan lock beat wait n m q bytes) (course.after7 now n m q bytes) (course.after7 now n m q bytes) refl }
 
 promises8 : (lock beat now : ℕ) (wait : Bool) (n m : Name) (q : PathNames) (bytes : List ℕ) → Promises (course.plan lock beat wait n m q bytes) (course.after8 now n m q bytes)
-promises8 lock beat now wait n m q bytes = record { once = tt; replies = silent_replies (course.plan lock beat wait n m q bytes) (course.after8 now n m q bytes) (course.after8 now n m q bytes) refl; refusals = silent_refusals (course.plan lock beat wait n m q bytes) (course.after8 now n m q bytes) (course.after8 now n m q bytes) refl }
+promises8 lock beat now wait n m q bytes = record { once = tt; replies = tt; view = tt; notices = tt; watches = tt; refusals = silent_refusals (course.plan lock beat wait n m q bytes) (course.after8 now n m q bytes) (course.after8 now n m q bytes) refl }
 
 promises9 : (lock beat now : ℕ) (wait : Bool) (n m : Name) (q : PathNames) (bytes : List ℕ) → Promises (course.plan lock beat wait n m q bytes) (course.after9 now n m q bytes)
-promises9 lock beat now wait n m q bytes = record { once = tt; replies = silent_replies (course.plan lock beat wait n m q bytes) (course.after9 now n m q bytes) (course.after9 now n m q bytes) refl; refusals = silent_refusals (course.plan lock beat wait n m q bytes) (course.after9 now n m q bytes) (course.after9 now n m q bytes) refl }
+promises9 lock beat now wait n m q bytes = record { once = tt; replies = tt; view = tt; notices = tt; watches = tt; refusals = silent_refusals (course.plan lock beat wait n m q bytes) (course.after9 now n m q bytes) (course.after9 now n m q bytes) refl }
 
 promises10 : (lock beat now : ℕ) (wait : Bool) (n m : Name) (q : PathNames) (bytes : List ℕ) → Promises (course.plan lock beat wait n m q bytes) (course.after10 now n m q bytes)
-promises10 lock beat now wait n m q bytes = record { once = tt; replies = silent_replies (course.plan lock beat wait n m q bytes) (course.after10 now n m q bytes) (course.after10 now n m q bytes) refl; refusals = silent_refusals (course.plan lock beat wait n m q bytes) (course.after10 now n m q bytes) (course.after10 now n m q bytes) refl }
+promises10 lock beat now wait n m q bytes = record { once = tt; replies = tt; view = tt; notices = tt; watches = tt; refusals = silent_refusals (course.plan lock beat wait n m q bytes) (course.after10 now n m q bytes) (course.after10 now n m q bytes) refl }
 
 promises11 : (lock beat now : ℕ) (wait : Bool) (n m : Name) (q : PathNames) (bytes : List ℕ) → Promises (course.plan lock beat wait n m q bytes) (course.after11 now n m q bytes)
 promises11 lock beat now wait n m q bytes = record {
   once = tt;
-  replies = (((silent_earlier 1 1 (course.after10 now n m q bytes) refl, refl), tt), silent_replies (course.plan lock beat wait n m q bytes) (course.after11 now n m q bytes) (course.after10 now n m q bytes) refl);
-  refusals = (((missing n m q bytes, none_seen), tt), silent_refusals (course.plan lock beat wait n m q bytes) (course.after11 now n m q bytes) (course.after10 now n m q bytes) refl);
+  replies = ((refl, (refl, refl)), tt);
+  view = (tt, tt);
+  notices = (tt, tt);
+  watches = (tt, tt);
+  refusals = (((refl, (missing n m q bytes, refl)), tt), silent_refusals (course.plan lock beat wait n m q bytes) (course.after11 now n m q bytes) (course.after10 now n m q bytes) refl);
 }
 
 lawful : (lock beat now : ℕ) (wait : Bool) (n m : Name) (q : PathNames) (bytes : List ℕ) → IsLawful (course.plan lock beat wait n m q bytes) (course.after11 now n m q bytes)
@@ -71,7 +71,7 @@ drains : (lock beat now : ℕ) (wait : Bool) (n m : Name) (q : PathNames) (bytes
 drains lock beat now wait n m q bytes l = record { begun = course.after1 now n m q bytes; begins = (_, drain_moment lock now l, refl); empties = empties lock beat now wait n m q bytes }
 
 answered : (lock beat now : ℕ) (wait : Bool) (n m : Name) (q : PathNames) (bytes : List ℕ) → AllAnswered (course.plan lock beat wait n m q bytes) (course.after11 now n m q bytes)
-answered lock beat now wait n m q bytes = record { clients = (record { commands = (refl, tt); lane = refl; inbox = refl }, tt); leader = refl; functions = simp (same n, same m, same_paths q, same_paths (parent (m ∷ q)), parent_before m q, child_after m q) }
+answered lock beat now wait n m q bytes = record { clients = (record { commands = (refl, tt); lane = refl; inbox = refl; pings = refl }, tt); leader = refl; watch = refl; functions = simp (same n, same m, same_paths q, same_paths (parent (m ∷ q)), parent_before m q, child_after m q) }
 
 -- the run of a deployment that comes to this
 pub run : (d : Deployment) (now : ℕ) (wait : Bool) (n m : Name) (q : PathNames) (bytes : List ℕ) → plan_of d ≡ course.plan d.config.lock d.config.beat wait n m q bytes → d.turns ≡ [] → now ≡ d.config.lock + 1 → IsRunOf d (course.after11 now n m q bytes)

@@ -2,48 +2,48 @@
 use Rattle.std.proofs.Common.{◌≡◌, ◌+◌, ◌≤◌, ℕ, Bool, List, [], refl, sym, subst, arith}
 use Rattle.fk_script.specs.declared.deployment.Deployment.{Deployment}
 use Rattle.fk_spec.specs.Plan.{Plan, plan_of}
-use Rattle.fk_spec.specs.Promises.{IsLawful, Promises}
+use Rattle.fk_spec.specs.Lawful.{IsLawful, Promises}
 use Rattle.fk_spec.specs.Schedule.{AllAnswered, Drains, Empties, Emptied, Goes}
 use Rattle.fk_play.specs.Run.{IsRunOf}
 use Rattle.fk_play.proofs.Root as course
 use Rattle.fk_play.proofs.Entries.{drain_moment}
-use Rattle.fk_play.proofs.Silence.{silent_earlier, silent_refusals, silent_replies}
-
-none_seen : 0 ≤ 0
-none_seen = omega arith
+use Rattle.fk_play.proofs.Silence.{silent_refusals}
 
 promises1 : (lock beat now : ℕ) (wait : Bool) (bytes : List ℕ) → Promises (course.plan lock beat wait bytes) (course.after1 now bytes)
-promises1 lock beat now wait bytes = record { once = tt; replies = silent_replies (course.plan lock beat wait bytes) (course.after1 now bytes) (course.after1 now bytes) refl; refusals = silent_refusals (course.plan lock beat wait bytes) (course.after1 now bytes) (course.after1 now bytes) refl }
+promises1 lock beat now wait bytes = record { once = tt; replies = tt; view = tt; notices = tt; watches = tt; refusals = silent_refusals (course.plan lock beat wait bytes) (course.after1 now bytes) (course.after1 now bytes) refl }
 
 promises2 : (lock beat now : ℕ) (wait : Bool) (bytes : List ℕ) → Promises (course.plan lock beat wait bytes) (course.after2 now bytes)
-promises2 lock beat now wait bytes = record { once = tt; replies = silent_replies (course.plan lock beat wait bytes) (course.after2 now bytes) (course.after2 now bytes) refl; refusals = silent_refusals (course.plan lock beat wait bytes) (course.after2 now bytes) (course.after2 now bytes) refl }
+promises2 lock beat now wait bytes = record { once = tt; replies = tt; view = tt; notices = tt; watches = tt; refusals = silent_refusals (course.plan lock beat wait bytes) (course.after2 now bytes) (course.after2 now bytes) refl }
 
 promises3 : (lock beat now : ℕ) (wait : Bool) (bytes : List ℕ) → Promises (course.plan lock beat wait bytes) (course.after3 now bytes)
-promises3 lock beat now wait bytes = record { once = tt; replies = silent_replies (course.plan lock beat wait bytes) (course.after3 now bytes) (course.after3 now bytes) refl; refusals = silent_refusals (course.plan lock beat wait bytes) (course.after3 now bytes) (course.after3 now bytes) refl }
+promises3 lock beat now wait bytes = record { once = tt; replies = tt; view = tt; notices = tt; watches = tt; refusals = silent_refusals (course.plan lock beat wait bytes) (course.after3 now bytes) (course.after3 now bytes) refl }
 
 promises4 : (lock beat now : ℕ) (wait : Bool) (bytes : List ℕ) → Promises (course.plan lock beat wait bytes) (course.after4 now bytes)
-promises4 lock beat now wait bytes = record { once = tt; replies = silent_replies (course.plan lock beat wait bytes) (course.after4 now bytes) (course.after4 now bytes) refl; refusals = silent_refusals (course.plan lock beat wait bytes) (course.after4 now bytes) (course.after4 now bytes) refl }
+promises4 lock beat now wait bytes = record { once = tt; replies = tt; view = tt; notices = tt; watches = tt; refusals = silent_refusals (course.plan lock beat wait bytes) (course.after4 now bytes) (course.after4 now bytes) refl }
 
 promises5 : (lock beat now : ℕ) (wait : Bool) (bytes : List ℕ) → Promises (course.plan lock beat wait bytes) (course.after5 now bytes)
-promises5 lock beat now wait bytes = record { once = tt; replies = silent_replies (course.plan lock beat wait bytes) (course.after5 now bytes) (course.after5 now bytes) refl; refusals = silent_refusals (course.plan lock beat wait bytes) (course.after5 now bytes) (course.after5 now bytes) refl }
+promises5 lock beat now wait bytes = record { once = tt; replies = tt; view = tt; notices = tt; watches = tt; refusals = silent_refusals (course.plan lock beat wait bytes) (course.after5 now bytes) (course.after5 now bytes) refl }
 
 promises6 : (lock beat now : ℕ) (wait : Bool) (bytes : List ℕ) → Promises (course.plan lock beat wait bytes) (course.after6 now bytes)
-promises6 lock beat now wait bytes = record { once = tt; replies = silent_replies (course.plan lock beat wait bytes) (course.after6 now bytes) (course.after6 now bytes) refl; refusals = silent_refusals (course.plan lock beat wait bytes) (course.after6 now bytes) (course.after6 now bytes) refl }
+promises6 lock beat now wait bytes = record { once = tt; replies = tt; view = tt; notices = tt; watches = tt; refusals = silent_refusals (course.plan lock beat wait bytes) (course.after6 now bytes) (course.after6 now bytes) refl }
 
 promises7 : (lock beat now : ℕ) (wait : Bool) (bytes : List ℕ) → Promises (course.plan lock beat wait bytes) (course.after7 now bytes)
-promises7 lock beat now wait bytes = record { once = tt; replies = silent_replies (course.plan lock beat wait bytes) (course.after7 now bytes) (course.after7 now bytes) refl; refusals = silent_refusals (course.plan lock beat wait bytes) (course.after7 now bytes) (course.after7 now bytes) refl }
+promises7 lock beat now wait bytes = record { once = tt; replies = tt; view = tt; notices = tt; watches = tt; refusals = silent_refusals (course.plan lock beat wait bytes) (course.after7 now bytes) (course.after7 now bytes) refl }
 
 promises8 : (lock beat now : ℕ) (wait : Bool) (bytes : List ℕ) → Promises (course.plan lock beat wait bytes) (course.after8 now bytes)
-promises8 lock beat now wait bytes = record { once = tt; replies = silent_replies (course.plan lock beat wait bytes) (course.after8 now bytes) (course.after8 now bytes) refl; refusals = silent_refusals (course.plan lock beat wait bytes) (course.after8 now bytes) (course.after8 now bytes) refl }
+promises8 lock beat now wait bytes = record { once = tt; replies = tt; view = tt; notices = tt; watches = tt; refusals = silent_refusals (course.plan lock beat wait bytes) (course.after8 now bytes) (course.after8 now bytes) refl }
 
 promises9 : (lock beat now : ℕ) (wait : Bool) (bytes : List ℕ) → Promises (course.plan lock beat wait bytes) (course.after9 now bytes)
-promises9 lock beat now wait bytes = record { once = tt; replies = silent_replies (course.plan lock beat wait bytes) (course.after9 now bytes) (course.after9 now bytes) refl; refusals = silent_refusals (course.plan lock beat wait bytes) (course.after9 now bytes) (course.after9 now bytes) refl }
+promises9 lock beat now wait bytes = record { once = tt; replies = tt; view = tt; notices = tt; watches = tt; refusals = silent_refusals (course.plan lock beat wait bytes) (course.after9 now bytes) (course.after9 now bytes) refl }
 
 promises10 : (lock beat now : ℕ) (wait : Bool) (bytes : List ℕ) → Promises (course.plan lock beat wait bytes) (course.after10 now bytes)
 promises10 lock beat now wait bytes = record {
   once = tt;
-  replies = (((silent_earlier 1 1 (course.after9 now bytes) refl, refl), tt), silent_replies (course.plan lock beat wait bytes) (course.after10 now bytes) (course.after9 now bytes) refl);
-  refusals = (((refl, none_seen), tt), silent_refusals (course.plan lock beat wait bytes) (course.after10 now bytes) (course.after9 now bytes) refl);
+  replies = ((refl, (refl, refl)), tt);
+  view = (tt, tt);
+  notices = (tt, tt);
+  watches = (tt, tt);
+  refusals = (((refl, (refl, refl)), tt), silent_refusals (course.plan lock beat wait bytes) (course.after10 now bytes) (course.after9 now bytes) refl);
 }
 
 lawful : (lock beat now : ℕ) (wait : Bool) (bytes : List ℕ) → IsLawful (course.plan lock beat wait bytes) (course.after10 now bytes)
@@ -56,7 +56,7 @@ drains : (lock beat now : ℕ) (wait : Bool) (bytes : List ℕ) → now ≡ lock
 drains lock beat now wait bytes l = record { begun = course.after1 now bytes; begins = (_, drain_moment lock now l, refl); empties = empties lock beat now wait bytes }
 
 answered : (lock beat now : ℕ) (wait : Bool) (bytes : List ℕ) → AllAnswered (course.plan lock beat wait bytes) (course.after10 now bytes)
-answered lock beat now wait bytes = record { clients = (record { commands = (refl, tt); lane = refl; inbox = refl }, tt); leader = refl; functions = refl }
+answered lock beat now wait bytes = record { clients = (record { commands = (refl, tt); lane = refl; inbox = refl; pings = refl }, tt); leader = refl; watch = refl; functions = refl }
 
 -- the run of a deployment that comes to this
 pub run : (d : Deployment) (now : ℕ) (wait : Bool) (bytes : List ℕ) → plan_of d ≡ course.plan d.config.lock d.config.beat wait bytes → d.turns ≡ [] → now ≡ d.config.lock + 1 → IsRunOf d (course.after10 now bytes)

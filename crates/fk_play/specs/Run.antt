@@ -1,7 +1,7 @@
 -- What a deployment's run is.
 use Rattle.fk_print.specs.declared.entry.Entry.{Entry}
 use Rattle.fk_script.specs.declared.deployment.Deployment.{Deployment}
-use Rattle.fk_spec.specs.Promises.{Lawful}
+use Rattle.fk_spec.specs.Lawful.{Lawful}
 use Rattle.fk_spec.specs.Schedule.{Scheduled, Answered}
 use Rattle.std.specs.Prelude.{List}
 
