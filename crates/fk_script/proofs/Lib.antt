@@ -1,1 +1,2 @@
+pub mod LastClient
 pub mod NumberWords

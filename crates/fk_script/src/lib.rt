@@ -9,6 +9,7 @@ mod event_words;
 mod lists;
 mod part_words;
 mod place;
+mod progress;
 mod values;
 mod why;
 mod words;
