@@ -1,6 +1,7 @@
 #!/usr/bin/env bash
 # Runs the built program over the case files in tests/cases: NAME.in on standard input, NAME.args as its
 # words, one a line (none without the file), against NAME.out and the status in NAME.status (0 without it).
+# Then over the examples, and over inputs that are too large to keep as files.
 set -u
 cd "$(dirname "$0")/.." || exit 1
 program=crates/fkrun/out/fkrun
@@ -13,22 +14,64 @@ if [ ! -x "$program" ]; then
 fi
 passed=0
 failed=0
-got=$(mktemp)
-trap 'rm -f "$got"' EXIT
+scratch=$(mktemp -d)
+trap 'rm -rf "$scratch"' EXIT
+
+# check NAME INPUT OUTPUT STATUS WORD ..: one run of the program against the file OUTPUT
+check() {
+  local name=$1 input=$2 output=$3 wanted=$4
+  shift 4
+  "$program" "$@" < "$input" > "$scratch/got"
+  local status=$?
+  if [ "$status" = "$wanted" ] && cmp -s "$scratch/got" "$output"; then
+    passed=$((passed + 1))
+  else
+    failed=$((failed + 1))
+    echo "failed: $name (status $status, wanted $wanted)"
+  fi
+}
+
+# check_line NAME STATUS LINE: the same for the input in $scratch/input, which gives one line
+check_line() {
+  echo "$3" > "$scratch/wanted"
+  check "$1" "$scratch/input" "$scratch/wanted" "$2"
+}
+
 for input in tests/cases/*.in; do
   name=${input%.in}
   words=()
   [ -f "$name.args" ] && mapfile -t words < "$name.args"
   wanted=0
   [ -f "$name.status" ] && wanted=$(cat "$name.status")
-  "$program" ${words[@]+"${words[@]}"} < "$input" > "$got"
-  status=$?
-  if [ "$status" = "$wanted" ] && cmp -s "$got" "$name.out"; then
+  check "${name##*/}" "$input" "$name.out" "$wanted" ${words[@]+"${words[@]}"}
+done
+
+# Each example has no line that offends: it is played, or its form isn't built yet.
+echo "bad Unbuilt" > "$scratch/unbuilt"
+for example in examples/*.fk; do
+  if "$program" < "$example" > "$scratch/got" || cmp -s "$scratch/got" "$scratch/unbuilt"; then
     passed=$((passed + 1))
   else
     failed=$((failed + 1))
-    echo "failed: ${name##*/} (status $status, wanted $wanted)"
+    echo "failed: $example ($(head -n 1 "$scratch/got"))"
   fi
 done
+
+# bytes NUMBER OCTAL: so many bytes of this value
+bytes() {
+  head -c "$1" /dev/zero | tr '\0' "\\$2"
+}
+
+{ bytes 4194303 043; echo; } > "$scratch/input"
+check comment-of-4194304-bytes "$scratch/input" tests/cases/empty-file.out 0
+{ bytes 4194304 043; echo; } > "$scratch/input"
+check_line comment-of-4194305-bytes 65 "bad TooLong"
+bytes 4194305 377 > "$scratch/input"
+check_line too-many-bytes-that-are-not-utf8 65 "bad TooLong"
+{ echo schedule; yes drain | head -n 65536; } > "$scratch/input"
+check_line turn-65536 65 "bad Unbuilt"
+echo drain >> "$scratch/input"
+check_line turn-65537 65 "bad 65538 TooMany"
+
 echo "cases: $passed passed, $failed failed"
 [ "$failed" = 0 ]

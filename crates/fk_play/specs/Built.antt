@@ -44,10 +44,6 @@ is_empty (t ∷ ts) = false
 abbrev pub is_built : Deployment → Bool
 is_built d = is_empty d.turns && are_built_clients d.clients
 
--- the most that the time of a lock can be
-abbrev pub lock_limit : ℕ
-lock_limit = 1000000
-
 abbrev pub ask_for : Bool → Want → Ask
 ask_for wait w = record { verb = verb.Create; wait = wait; want = w }
 

@@ -1,8 +1,9 @@
 //! Playing a deployment of the form that runs.
 
 ghost use Rattle.std.specs.Prelude.{◌≡◌, ◌≤◌, true, false, None, Some, IfOk, IfSome, IfNone, OnSome, MatchOption};
-ghost use Rattle.fk_play.specs.Built.{AsksFor, ask_for, commands_of, is_built, is_plain_create, lock_limit, want_for};
+ghost use Rattle.fk_play.specs.Built.{AsksFor, ask_for, commands_of, is_built, is_plain_create, want_for};
 ghost use Rattle.fk_play.specs.Run.{IsRunOf};
+ghost use Rattle.fk_script.specs.Values.{most_time};
 ghost use Rattle.fk_spec.specs.Plan.{ask_of, path_within, want_of, waits};
 
 use crate::engine::Engine;
@@ -111,7 +112,7 @@ fn commands_of(alloc: Global, asked: Asked) -> Result<Vec<Wanted>, NoMemory>
 
 /// Plays a deployment: the history of its last drain, or None where its form doesn't run yet.
 pub fn play(alloc: Global, deployment: &Deployment) -> Result<Option<History>, NoMemory>
-    requires { deployment.now.config.lock ≤ lock_limit }
+    requires { deployment.now.config.lock ≤ most_time }
     ensures history { IfOk result (λ o. IfSome o (IsRunOf deployment.now)) }
     ensures built { IfOk result (λ o. OnSome o (is_built deployment.now ≡ true)) }
     ensures unbuilt { IfOk result (λ o. IfNone o (is_built deployment.now ≡ false)) }

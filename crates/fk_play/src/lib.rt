@@ -1,5 +1,6 @@
-//! Plays a deployment of the form that runs so far: one client with one create. The services stand as
-//! plain lists beside the history; this crate is the seed of the world and gives way to it.
+//! Plays a deployment of the form that runs so far: at most one client, with at most one create. The
+//! services stand as plain lists beside the history; this crate is the seed of the world and gives way
+//! to it.
 #![tactic(auto)]
 
 mod client;

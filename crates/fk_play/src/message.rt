@@ -36,7 +36,7 @@ pub(crate) struct Push {
 }
 
 /// A refusal: a code, and the number of the tree at which it holds.
-#[derive(Clone, Copy, Debug, PartialEq, Eq)]
+#[derive(Clone, Copy)]
 pub(crate) struct Refused {
     pub code: Code,
     pub at: u64,

@@ -5,7 +5,7 @@ use crate::message::{Refused, Views};
 use fk_base::Paths;
 
 /// The operation before which a function stands. The first seven are a follower's.
-#[derive(Clone, Copy, Debug, PartialEq, Eq)]
+#[derive(Clone, Copy)]
 pub(crate) enum Stage {
     Session,
     Lock,

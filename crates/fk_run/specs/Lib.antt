@@ -1,4 +1,2 @@
-pub mod Cut
-pub mod FirstForm
 pub mod Run
 pub mod Statuses

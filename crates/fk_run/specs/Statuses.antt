@@ -1,14 +1,16 @@
 -- What each status says of the source and the sink: their bytes, where they are told, before and after.
-use Rattle.std.specs.Prelude.{◌≡◌, ℕ, ◌+◌, ◌==◌, Bool, true, false, ◌⊎◌, List, [], ◌∷◌, codes, Option}
+use Rattle.std.specs.Prelude.{◌≡◌, ℕ, ◌+◌, ◌==◌, Bool, true, false, ◌⊎◌, List, [], ◌∷◌, ◌++◌, codes, Option}
+use Rattle.std.specs.Fmt.{decimal}
 use Rattle.std.specs.List.{list_any}
 use Rattle.std.specs.Io.KnownBytes.{Appends, Consumes, IsAtEnd}
-use Rattle.fk_base.specs.Path.{Name}
 use Rattle.fk_base.specs.Source.{TakesCount}
 use Rattle.fk_print.specs.EntryText.{history_text}
 use Rattle.fk_print.specs.declared.entry.Entry.{Entry}
+use Rattle.fk_script.specs.Reading.{Means, Offends, deployment_of}
+use Rattle.fk_script.specs.Reasons.{why_text}
 use Rattle.fk_script.specs.declared.deployment.Deployment.{Deployment}
+use Rattle.fk_script.specs.declared.why.Why.{Why}
 use Rattle.fk_play.specs.Built.{is_built}
-use Rattle.fk_run.specs.FirstForm.{Means}
 use Rattle.fk_play.specs.Run.{IsRunOf}
 use Rattle.fk_run.specs.Run.{client_names}
 
@@ -22,6 +24,10 @@ input_limit = 4194304
 abbrev pub too_long_line : List ℕ
 too_long_line = codes "bad TooLong\n"
 
+-- the number of a line, and the reason for which it offends
+abbrev pub bad_line : ℕ → Why → List ℕ
+bad_line line why = codes "bad " ++ decimal line ++ codes " " ++ why_text why ++ codes "\n"
+
 abbrev pub unbuilt_line : List ℕ
 unbuilt_line = codes "bad Unbuilt\n"
 
@@ -30,40 +36,50 @@ pub record TakesAll (old new : Option (List ℕ)) (input : List ℕ) : Type 0 wh
   pub taken : Consumes old new input
   pub ended : IsAtEnd new
 
--- No deployment that the bytes mean runs so far.
-abbrev pub IsUnbuilt : List ℕ → Type 0
-IsUnbuilt input = (d : Deployment) → Means input d → is_built d ≡ false
-
 -- More bytes than the limit came, and the line that says so was written.
 pub record RefusesLength (source source_after sink sink_after : Option (List ℕ)) : Type 0 where
   pub taken : TakesCount source source_after (input_limit + 1)
   pub written : Appends sink sink_after too_long_line
 
--- The whole input is unbuilt, and the line that says so was written.
-pub record RefusesForm (source source_after sink sink_after : Option (List ℕ)) : Type 0 where
+-- A line of the input offends, and its number and its reason were written.
+pub record RefusesLine (input : List ℕ) (sink sink_after : Option (List ℕ)) : Type 0 where
+  pub line : ℕ
+  pub why : Why
+  pub offends : deployment_of input ≡ Offends line why
+  pub written : Appends sink sink_after (bad_line line why)
+
+-- The input means a deployment that doesn't run so far, and the line that says so was written.
+pub record RefusesForm (input : List ℕ) (sink sink_after : Option (List ℕ)) : Type 0 where
+  pub deployment : Deployment
+  pub meant : deployment_of input ≡ Means deployment
+  pub unbuilt : is_built deployment ≡ false
+  pub written : Appends sink sink_after unbuilt_line
+
+abbrev pub RefusesInput : List ℕ → Option (List ℕ) → Option (List ℕ) → Type 0
+RefusesInput input sink sink_after = RefusesLine input sink sink_after ⊎ RefusesForm input sink sink_after
+
+-- The whole input was read, and is refused.
+pub record RefusesRead (source source_after sink sink_after : Option (List ℕ)) : Type 0 where
   pub input : List ℕ
   pub read : TakesAll source source_after input
-  pub unbuilt : IsUnbuilt input
-  pub written : Appends sink sink_after unbuilt_line
+  pub refused : RefusesInput input sink sink_after
 
 -- status 65
 abbrev pub Refuses : Option (List ℕ) → Option (List ℕ) → Option (List ℕ) → Option (List ℕ) → Type 0
-Refuses source source_after sink sink_after = RefusesLength source source_after sink sink_after ⊎ RefusesForm source source_after sink sink_after
+Refuses source source_after sink sink_after = RefusesLength source source_after sink sink_after ⊎ RefusesRead source source_after sink sink_after
 
--- The input means a deployment that runs, these are its clients' names, and this is a run of it.
-pub record IsRunFrom (input : List ℕ) (names : List Name) (history : List Entry) : Type 0 where
-  pub deployment : Deployment
-  pub meant : Means input deployment
+-- The deployment runs, and the text of a run of it was written.
+pub record WritesRunOf (deployment : Deployment) (sink sink_after : Option (List ℕ)) : Type 0 where
   pub built : is_built deployment ≡ true
-  pub named : names ≡ client_names deployment
-  pub ran : IsRunOf deployment history
-
--- The text of a run of what the input means was written.
-pub record WritesRun (input : List ℕ) (sink sink_after : Option (List ℕ)) : Type 0 where
-  pub names : List Name
   pub history : List Entry
-  pub run : IsRunFrom input names history
-  pub written : Appends sink sink_after (history_text names history)
+  pub ran : IsRunOf deployment history
+  pub written : Appends sink sink_after (history_text (client_names deployment) history)
+
+-- The text of a run of the deployment that the input means was written.
+pub record WritesRun (input : List ℕ) (sink sink_after : Option (List ℕ)) : Type 0 where
+  pub deployment : Deployment
+  pub meant : deployment_of input ≡ Means deployment
+  pub run : WritesRunOf deployment sink sink_after
 
 -- status 0: the run of the whole input was written
 pub record Runs (source source_after sink sink_after : Option (List ℕ)) : Type 0 where

@@ -1,7 +1,6 @@
 //! The top call of the program that plays a deployment file and prints its history.
 #![tactic(auto)]
 
-mod form;
 mod status;
 mod top;
 mod write;

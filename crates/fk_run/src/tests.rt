@@ -29,25 +29,19 @@ fn tells_the_causes(rt: HostRuntime) -> Result<(), Fail> {
     let words = vec![in alloc; String::from_str(alloc, "--help")?]?;
     assert_eq!(rt; status(alloc, words.as_slice(), form, &[], &[], b"")?, 64);
     assert_eq!(rt; status(alloc, &[], form, &[1], &[], b"")?, 66);
-    assert_eq!(rt; status(alloc, &[], b"client a\n", &[], &[1], b"")?, 74);
+    assert_eq!(rt; status(alloc, &[], b"", &[], &[1], b"")?, 74);
+    assert_eq!(rt; status(alloc, &[], b"fly\n", &[], &[1], b"")?, 74);
     Ok(())
 }
 
 #[test]
-fn refuses_other_forms(rt: HostRuntime) -> Result<(), Fail> {
-    for input in [
-        "",
-        "client a\n",
-        "client a\ncreate /x hi",
-        "client a\ncreate /x hi\n\n",
-        "client a\ncreate /x\n",
-        "client a\ncreate /x hi there\n",
-        "client a\ncreate -s /x hi\n",
-        "client a\ncreate -x hi\n",
-        "client  a\ncreate /x hi\n",
-        "client A\ncreate /x hi\n",
-        "client 1a\ncreate /x hi\n",
-        "client leader\ncreate /x hi\n",
+fn tells_why_it_refuses(rt: HostRuntime) -> Result<(), Fail> {
+    for (input, wanted) in [
+        ("client a\nget /x\n", "bad Unbuilt\n"),
+        ("lock 10\nlock 10\n", "bad 2 BadWords\n"),
+        ("client a\nget -s /x\n", "bad 2 BadOption\n"),
+        ("client a\ncreate -b /x A\n", "bad 2 BadBase64\n"),
+        ("schedule\nclient z\n", "bad 2 UnknownClient\n"),
     ] {
         let status = status(
             rt.alloc(),
@@ -55,7 +49,7 @@ fn refuses_other_forms(rt: HostRuntime) -> Result<(), Fail> {
             input.as_bytes(),
             &[],
             &[],
-            b"bad Unbuilt\n",
+            wanted.as_bytes(),
         )?;
         assert_eq!(rt; status, 65, "at {input}");
     }

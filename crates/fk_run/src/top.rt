@@ -1,32 +1,25 @@
-ghost use Rattle.std.specs.Prelude.{◌≡◌, ◌≢◌, ◌≤◌, ◌↔◌, ◌⊎◌, [], IsTrue, IfOk, IfSome, IfNone, List, ℕ};
+ghost use Rattle.std.specs.Prelude.{◌≡◌, ◌≢◌, ◌≤◌, ◌↔◌, ◌⊎◌, false, [], IsTrue, IfOk};
 ghost use Rattle.std.specs.Io.KnownBytes.{Appends};
 ghost use Rattle.fk_base.specs.Faults.{Rose};
-ghost use Rattle.fk_base.specs.Path.{Name};
 ghost use Rattle.fk_print.specs.EntryText.{history_text};
-ghost use Rattle.fk_print.specs.declared.entry.Entry.{Entry};
-ghost use Rattle.fk_run.specs.Run.{client_names, names_of};
-ghost use Rattle.fk_run.specs.Statuses.{IsRunFrom, IsUnbuilt, Refuses, Runs, WritesRun, is_status, unbuilt_line};
+ghost use Rattle.fk_play.specs.Built.{is_built};
+ghost use Rattle.fk_script.specs.Values.{most_time};
+ghost use Rattle.fk_run.specs.Run.{client_names};
+ghost use Rattle.fk_run.specs.Statuses.{Refuses, RefusesInput, Runs, WritesRun, WritesRunOf, is_status, unbuilt_line};
 
-use crate::form::read_form;
 use crate::status::{NO_MEMORY, READ_FAULT, USAGE};
-use crate::write::{refuse, write_history};
+use crate::write::{refuse, refuse_line, write_history};
 use fk_base::{Names, NoMemory, ReadAll, Sink, Source, read_all};
 use fk_play::play;
 use fk_print::History;
-use fk_script::Deployment;
+use fk_script::{Deployment, ScriptFault, read_script};
 use std::alloc::Global;
-
-/// A run, and its clients' names.
-#[derive(Drop)]
-struct Run {
-    clients: Names,
-    history: History,
-}
 
 /// Reads a deployment to its end, plays it and writes the history; the answer is an exit status.
 ///
-/// The statuses, the first that fits: 64 words on the command line, 66 a read fault, 65 an input
-/// that can't be played, 74 a write fault, 71 want of memory, 0 else.
+/// The statuses, the first that fits: 64 words on the command line, 66 a read fault, 65 an input that
+/// is too long, has a line that offends, or can't be played yet, 74 a write fault, 71 want of memory,
+/// 0 else.
 pub fn fk_run<S: Source, K: Sink>(
     alloc: Global,
     words: &[String],
@@ -58,35 +51,49 @@ pub fn fk_run<S: Source, K: Sink>(
     }
 }
 
-/// Writes the run of the deployment that the bytes mean, or that there is none.
+/// Writes a run of the deployment that the bytes mean, or why there is none.
 fn answer<K: Sink>(alloc: Global, input: &[u8], sink: &mut K) -> u8
-    ensures unbuilt { result ≡ 65 → IsUnbuilt input.now }
-    ensures refused { result ≡ 65 → Appends (K.taken sink.old) (K.taken sink.new) unbuilt_line }
+    ensures refused { result ≡ 65 → RefusesInput input.now (K.taken sink.old) (K.taken sink.new) }
     ensures ran { result ≡ 0 → WritesRun input.now (K.taken sink.old) (K.taken sink.new) }
     ensures fault { result ≡ 74 → Rose (K.faults sink.old) (K.faults sink.new) }
     ensures statuses { (result ≡ 0) ⊎ (result ≡ 65) ⊎ (result ≡ 71) ⊎ (result ≡ 74) }
     ensures later { K.faults sink.old ≤ K.faults sink.new }
 {
-    match run_of(alloc, input) {
-        Ok(Some(run)) => write_history(alloc, &run.clients, &run.history, sink),
+    match read_script(alloc, input) {
+        Ok(deployment) => run(alloc, &deployment, sink),
+        Err(ScriptFault::Bad(line, why)) => refuse_line(alloc, line, why, sink),
+        Err(ScriptFault::NoMemory) => NO_MEMORY,
+    }
+}
+
+/// Writes a run of the deployment, or that its form doesn't run yet.
+fn run<K: Sink>(alloc: Global, deployment: &Deployment, sink: &mut K) -> u8
+    requires { deployment.now.config.lock ≤ most_time }
+    ensures unbuilt { result ≡ 65 → is_built deployment.now ≡ false }
+    ensures refused { result ≡ 65 → Appends (K.taken sink.old) (K.taken sink.new) unbuilt_line }
+    ensures ran { result ≡ 0 → WritesRunOf deployment.now (K.taken sink.old) (K.taken sink.new) }
+    ensures fault { result ≡ 74 → Rose (K.faults sink.old) (K.faults sink.new) }
+    ensures statuses { (result ≡ 0) ⊎ (result ≡ 65) ⊎ (result ≡ 71) ⊎ (result ≡ 74) }
+    ensures later { K.faults sink.old ≤ K.faults sink.new }
+{
+    match play(alloc, deployment) {
+        Ok(Some(history)) => write_run(alloc, deployment, &history, sink),
         Ok(None) => refuse("bad Unbuilt\n", sink),
         Err(NoMemory) => NO_MEMORY,
     }
 }
 
-/// A run of the deployment that the bytes mean, where it is of a form that runs.
-fn run_of(alloc: Global, input: &[u8]) -> Result<Option<Run>, NoMemory>
-    ensures ran { IfOk result (λ o. IfSome o (λ r. IsRunFrom input.now r.clients r.history)) }
-    ensures none { IfOk result (λ o. IfNone o (IsUnbuilt input.now)) }
+/// Writes a history of the deployment, with its clients' names.
+fn write_run<K: Sink>(alloc: Global, deployment: &Deployment, history: &History, sink: &mut K) -> u8
+    ensures done { result ≡ 0 → Appends (K.taken sink.old) (K.taken sink.new) (history_text (client_names deployment.now) history.now) }
+    ensures fault { result ≡ 74 → Rose (K.faults sink.old) (K.faults sink.new) }
+    ensures statuses { (result ≡ 0) ⊎ (result ≡ 71) ⊎ (result ≡ 74) }
+    ensures later { K.faults sink.old ≤ K.faults sink.new }
 {
-    let Some(deployment) = read_form(alloc, input)? else {
-        return Ok(None);
-    };
-    let Some(history) = play(alloc, &deployment)? else {
-        return Ok(None);
-    };
-    let clients = client_names(alloc, &deployment)?;
-    Ok(Some(Run { clients, history }))
+    match client_names(alloc, deployment) {
+        Ok(clients) => write_history(alloc, &clients, history, sink),
+        Err(NoMemory) => NO_MEMORY,
+    }
 }
 
 /// The names of the clients, in file order.

@@ -1,0 +1,4 @@
+pub mod LastClient
+pub mod LineCuts
+pub mod LinesRead
+pub mod NumberWords

@@ -1,15 +1,27 @@
 //! Deployment files: what clients ask for, command by command, and what happens when.
 #![tactic(auto)]
 
+mod client_name;
 mod command;
+mod command_words;
+mod cut;
 mod deployment;
+mod event_words;
+mod fault;
 mod lists;
+mod part_words;
 mod place;
+mod progress;
+mod read;
+mod values;
 mod why;
+mod words;
 
 pub use command::{Command, PartCommand};
 pub use deployment::{Block, Deployment, Turn};
+pub use fault::ScriptFault;
 pub use lists::{Clients, Commands, PartCommands, Turns};
+pub use read::read_script;
 pub use why::Why;
 
 #[cfg(test)]
