@@ -1,0 +1,8 @@
+mod Counting
+mod Holding
+mod Lists
+mod Members
+mod Owning
+mod Passing
+mod Reading
+mod Touching
