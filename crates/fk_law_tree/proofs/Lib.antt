@@ -1,4 +1,6 @@
+mod Applying
 mod Counting
+mod Growing
 mod Holding
 mod Lists
 mod Members
@@ -6,3 +8,4 @@ mod Owning
 mod Passing
 mod Reading
 mod Touching
+mod Whole
