@@ -25,6 +25,7 @@ use Rattle.fk_tree.proofs.Deletes.{delete_view}
 use Rattle.fk_law_tree.specs.WellFormed.{is_unowned}
 use Rattle.fk_law_tree.proofs.Passing.{final_parent, final_below_root, placed_none, first_passes, others_pass, CreatePasses, passed_create, DeletePasses, passed_delete}
 use Rattle.fk_law_tree.proofs.Whole.{is_free, IsWhole, has_parents, set_keeps, create_keeps, IsLeaf, AllLeaves, delete_keeps, deletes_keep, owned_leaves}
+use Rattle.fk_law_tree.proofs.Members.{edited_append}
 
 -- A NODE WITHOUT ITS TIMES
 -- neither a check nor what is filled reads a transaction or a moment of a node
@@ -63,10 +64,6 @@ erased_edited tx moment p (e ∷ es) o = erased_edited tx moment p es (cond (sam
     step : (b : Bool) → map_some erased (cond b (edit tx moment e.what o) o) ≡ cond b (edit 0 0 e.what (map_some erased o)) (map_some erased o)
     step true = erased_edit tx moment e.what o
     step false = refl
-
-edited_append : (tx moment : ℕ) (p : PathNames) (es fs : List Edit) (o : Option Node) → edited tx moment p (es ++ fs) o ≡ edited tx moment p fs (edited tx moment p es o)
-edited_append tx moment p [] fs o = refl
-edited_append tx moment p (e ∷ es) fs o = edited_append tx moment p es fs (cond (same_path p e.path) (edit tx moment e.what o) o)
 
 -- the nodes of a view are those of a tree but for their times
 abbrev IsLike : View → Nodes → Type 0

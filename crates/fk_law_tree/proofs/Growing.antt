@@ -7,7 +7,7 @@ use Rattle.std.proofs.lemmas.Bool.Decides.{nat_tests}
 use Rattle.fk_base.specs.Path.{Name, PathNames, path_cmp, parent, is_root, same_path}
 use Rattle.fk_tree.specs.Sorted.{has_name, has_path, rises}
 use Rattle.fk_tree.specs.Tree.{Bare, Nodes, Tree, children, with_names, map_some, node_view, root_node, start_tree}
-use Rattle.fk_tree.specs.View.{look, is_in, start_view}
+use Rattle.fk_tree.specs.View.{look, is_in, start_view, View}
 use Rattle.fk_tree.specs.Edit.{after, effects, closes}
 use Rattle.fk_tree.specs.Fill.{final_path, fill_gone, owned}
 use Rattle.fk_tree.specs.Apply.{apply, IsFilled}
@@ -20,13 +20,18 @@ use Rattle.fk_tree.proofs.Rising.{same_rising}
 use Rattle.fk_tree.proofs.Views.{has_children, children_of}
 use Rattle.fk_law_tree.specs.Fitting.{GoneIs, Fits, FitsWhatIsShown}
 use Rattle.fk_law_tree.specs.Following.{AppliedByPath, AppliedIsAfter, tree_after, IsShown, TreesAreViews, ViewsAreTrees}
-use Rattle.fk_law_tree.specs.Locking.{owned_final}
-use Rattle.fk_law_tree.specs.WellFormed.{is_unowned, IsWellFormed, KeepsWellFormed, OwnersHaveNoChild, UnlockedIsMissing}
+use Rattle.fk_law_tree.specs.Locking.{owned_final, unlocked}
+use Rattle.fk_law_tree.specs.WellFormed.{is_unowned, IsWellFormed, KeepsWellFormed, OwnersHaveNoChild, UnlockedIsMissing, LockedIsEnough}
 use Rattle.fk_law_tree.proofs.Applying.{some_view, free_view, IsApplied, request_applied}
 use Rattle.fk_law_tree.proofs.Counting.{only_its_edits}
 use Rattle.fk_law_tree.proofs.Owning.{owned_has, owned_rises}
 use Rattle.fk_law_tree.proofs.Passing.{passed_open}
 use Rattle.fk_law_tree.proofs.Whole.{is_free, IsWhole}
+use Rattle.fk_tree.specs.Locks.{lock_paths}
+use Rattle.fk_law_tree.specs.Reading.{AgreeOn, reads}
+use Rattle.fk_law_tree.proofs.Reading.{at_head, check_reads, fill_reads}
+use Rattle.fk_law_tree.proofs.Holding.{reads_are_locked}
+use Rattle.fk_law_tree.proofs.Members.{has_append}
 
 -- FITTING
 gone_filled : (t : Nodes) (c : ℕ → Bool) (s : ℕ) (r : Request) (gone : List PathNames) → GoneIs (record { node = node_view t; closed = c }) s r gone → gone ≡ fill_gone t s r
@@ -144,6 +149,30 @@ unlocked_is_missing t (request.Set p bytes version) q w h = absurd (false≢true
 unlocked_is_missing t (request.Delete p version) q w h = absurd (false≢true h)
 unlocked_is_missing t (request.Close evict) q w h = absurd (false≢true h)
 unlocked_is_missing t (request.Multi xs) q w h = absurd (false≢true h)
+
+-- LOCKED PATHS ARE ENOUGH
+-- the parent of a sequential create is locked
+unlocked_same : (v w : View) (owned : List PathNames) (r : Request) → AgreeOn v w (lock_paths v owned r) → unlocked v r ≡ unlocked w r
+unlocked_same v w owned (request.Create [] bytes true eph) a = refl
+unlocked_same v w owned (request.Create (n ∷ p) bytes true eph) a = ap (owned_final (n ∷ p)) (at_head v w (parent (n ∷ p)) _ a)
+unlocked_same v w owned (request.Create p bytes false eph) a = refl
+unlocked_same v w owned (request.Set p bytes version) a = refl
+unlocked_same v w owned (request.Delete p version) a = refl
+unlocked_same v w owned (request.Close evict) a = refl
+unlocked_same v w owned (request.Multi xs) a = refl
+
+enough : (t : Tree) (v : View) (owned : List PathNames) (session : ℕ) (r : Request) → IsWellFormed t → AgreeOn v (look t) (lock_paths v owned r)
+    → ((p : PathNames) → has_path p (lock_paths v owned r) ≡ false → v.node p ≡ None) → AgreeOn v (look t) (reads v session r)
+enough t v owned session r w a n p h =
+    by_test (has_path p (lock_paths v owned r)) (λ c. (c || has_path p (unlocked v r)) ≡ true → v.node p ≡ (look t).node p)
+    (λ l _. a p l)
+    (λ l u. n p l ∙ sym (unlocked_is_missing t r p w (ap (has_path p) (sym (unlocked_same v (look t) owned r a)) ∙ u)))
+    (sym (has_append p (lock_paths v owned r) (unlocked v r)) ∙ reads_are_locked v owned session r p h)
+
+pub locked_is_enough : LockedIsEnough
+locked_is_enough t v owned session r w c a n =
+    let same : AgreeOn v (look t) (reads v session r) = enough t v owned session r w a n in
+    (check_reads v (look t) session r c same, fill_reads v (look t) session r same)
 
 -- THE START
 start_get : (q : PathNames) → get start_tree.nodes q ≡ cond (same_path q []) (Some root_node) None

@@ -18,12 +18,14 @@ use Rattle.fk_tree.specs.declared.request.Part.TheVariants as part
 use Rattle.fk_tree.specs.declared.request.Request.{Request}
 use Rattle.fk_tree.specs.declared.request.Request.TheVariants as request
 use Rattle.fk_tree.proofs.Order.{by_test, same_path_is, same_path_self}
-use Rattle.fk_law_tree.specs.Locking.{Within, EditsAreLocked, owned_final, ReadsAreLocked, ReadsAreEdited, FitsByItsEdits, LocksReadLocked}
+use Rattle.fk_law_tree.specs.Locking.{Within, EditsAreLocked, owned_final, ReadsAreLocked, ReadsAreEdited, ListsOwned, GoneIsOwned, FitsByItsEdits, LocksReadLocked}
+use Rattle.fk_law_tree.specs.Owners.{is_owned}
 use Rattle.fk_law_tree.specs.Reading.{final_paths, create_reads, part_reads, parts_reads, reads, AgreeOn}
 use Rattle.fk_law_tree.proofs.Lists.{ordered_has}
 use Rattle.fk_law_tree.proofs.Members.{or_left, or_right, has_append, edit_paths_append}
 use Rattle.fk_law_tree.proofs.Passing.{final_parent, final_below_root, passed_open, placed_none, CreatePasses, passed_create}
 use Rattle.fk_law_tree.proofs.Reading.{at_head, check_reads, fill_reads}
+use Rattle.fk_law_tree.specs.Fitting.{GoneIs}
 
 -- LISTS
 either : (a b c : Bool) → (a ≡ true → c ≡ true) → (b ≡ true → c ≡ true) → (a || b) ≡ true → c ≡ true
@@ -222,8 +224,24 @@ request_edited v a (request.Multi xs) e n m q h = ap (λ ms. has_path q (edit_pa
 pub reads_are_edited : ReadsAreEdited
 reads_are_edited v a f = into_order (reads v a.session a.request) (edit_paths (effects a)) (request_edited v a a.request (passed_open v a.session a.request f.passes) f.name f.made)
 
+-- CLOSES BY WHAT THEY EDIT
+same_bool : (a b : Bool) → (a ≡ true → b ≡ true) → (b ≡ true → a ≡ true) → a ≡ b
+same_bool true b f g = sym (f refl)
+same_bool false true f g = g refl
+same_bool false false f g = refl
+
+gone_edited : (ps : List PathNames) → Within ps (edit_paths (deletes_edits ps))
+gone_edited ps p h = deletes_pairs p ps ∙ pair_of_one p ps h p (with_its_parent p p (or_left (same_path p p) _ (same_path_self p)))
+
+gone_same : (v w : View) (a : Applied) (r : Request) → GoneIs v a.session r a.gone → AgreeOn v w (edit_paths (effects_of a r)) → ListsOwned w a.session r a.gone → GoneIs w a.session r a.gone
+gone_same v w a (request.Create p bytes seq eph) g s l = g
+gone_same v w a (request.Set p bytes version) g s l = g
+gone_same v w a (request.Delete p version) g s l = g
+gone_same v w a (request.Close evict) g s l = (g.0, λ p. same_bool (has_path p a.gone) (is_owned a.session (w.node p)) (λ h. ap (is_owned a.session) (sym (s p (gone_edited a.gone p h))) ∙ sym (g.1 p) ∙ h) (l p))
+gone_same v w a (request.Multi xs) g s l = g
+
 pub fits_by_its_edits : FitsByItsEdits
-fits_by_its_edits v w a f c s g =
+fits_by_its_edits v w a f c s l =
     let same : AgreeOn v w (reads v a.session a.request) = agree_within v w (reads v a.session a.request) (edited_paths a) (reads_are_edited v a f) s in
     record {
       session = f.session;
@@ -231,8 +249,18 @@ fits_by_its_edits v w a f c s g =
       name = f.name ∙ (fill_reads v w a.session a.request same).name;
       version = f.version ∙ (fill_reads v w a.session a.request same).version;
       made = f.made ∙ (fill_reads v w a.session a.request same).made;
-      gone = g;
+      gone = gone_same v w a a.request f.gone (λ p h. s p (ordered_has (edit_paths (effects a)) p ∙ h)) l;
     }
+
+gone_listed : (v : View) (owned : List PathNames) (a : Applied) (r : Request) → GoneIs v a.session r a.gone → ListsOwned v a.session r owned → Within a.gone owned
+gone_listed v owned a (request.Create p bytes seq eph) g l = λ q h. absurd (false≢true (ap (has_path q) (sym g) ∙ h))
+gone_listed v owned a (request.Set p bytes version) g l = λ q h. absurd (false≢true (ap (has_path q) (sym g) ∙ h))
+gone_listed v owned a (request.Delete p version) g l = λ q h. absurd (false≢true (ap (has_path q) (sym g) ∙ h))
+gone_listed v owned a (request.Close evict) g l = λ q h. l q (sym (g.1 q) ∙ h)
+gone_listed v owned a (request.Multi xs) g l = λ q h. absurd (false≢true (ap (has_path q) (sym g) ∙ h))
+
+pub gone_is_owned : GoneIsOwned
+gone_is_owned v owned a f l = gone_listed v owned a a.request f.gone l
 
 -- LOCK PATHS
 numbered_same : (v w : View) (p : PathNames) → AgreeOn v w (numbered_paths p (v.node (parent p))) → numbered_paths p (v.node (parent p)) ≡ numbered_paths p (w.node (parent p))

@@ -6,10 +6,10 @@ use Rattle.std.specs.FinMap.{entries, find, is_sorted, get, get-entries, entries
 use Rattle.std.specs.FinMap.Entries.{below_all}
 use Rattle.std.proofs.lemmas.Bool.{false≢true}
 use Rattle.std.proofs.lemmas.Bool.Decides.{nat_tests}
-use Rattle.fk_base.specs.Path.{Name, PathNames, path_cmp, same_path, last_name}
+use Rattle.fk_base.specs.Path.{Name, PathNames, path_cmp, same_path, last_name, parent}
 use Rattle.fk_tree.specs.Sorted.{has_path, is_below, rises}
 use Rattle.fk_tree.specs.Tree.{Bare, Nodes, children, with_names, map_some, node_view}
-use Rattle.fk_tree.specs.Edit.{edit, edited, effects, effects_of, of_parent, owner_for, create_edits, delete_edits, deletes_edits, part_edits, parts_edits}
+use Rattle.fk_tree.specs.Edit.{edit, edited, effects, effects_of, of_parent, owner_for, create_edits, delete_edits, deletes_edits, part_edits, parts_edits, closes}
 use Rattle.fk_tree.specs.Fill.{owned, owned_in}
 use Rattle.fk_tree.specs.declared.applied.Applied.{Applied}
 use Rattle.fk_tree.specs.declared.applied.Made.{Made}
@@ -23,6 +23,9 @@ use Rattle.fk_tree.specs.declared.request.Request.{Request}
 use Rattle.fk_tree.specs.declared.request.Request.TheVariants as request
 use Rattle.fk_tree.proofs.Order.{by_test, and_left, and_right, tested, tested_left, tested_right, same_path_is}
 use Rattle.fk_law_tree.specs.Owners.{is_owned, KeepsForeignOwners, OwnedAreTheOwners}
+use Rattle.fk_tree.specs.View.{View}
+use Rattle.fk_law_tree.specs.Fitting.{GoneIs, CloseLeavesNone}
+use Rattle.fk_law_tree.proofs.Members.{edited_append}
 
 -- an edit makes a node of no owner or of this session
 abbrev is_own : ℕ → What → Bool
@@ -97,6 +100,51 @@ own_effects a (request.Multi xs) = own_parts a.session xs a.made
 
 pub keeps_foreign_owners : KeepsForeignOwners
 keeps_foreign_owners v a p c z s e = edited_owner a.tx a.moment a.session c p (effects a) (v.node p) (own_effects a a.request) z s e
+
+-- CLOSES
+dropped_owner : (tx moment s : ℕ) (x : Name) (b : Bool) (o : Option Node) → is_owned s (cond b (edit tx moment (what.DropName x) o) o) ≡ is_owned s o
+dropped_owner tx moment s x true None = refl
+dropped_owner tx moment s x true (Some n) = grind arith
+dropped_owner tx moment s x false o = refl
+
+deleted_owner : (tx moment s : ℕ) (p q : PathNames) (o : Option Node) → is_owned s (edited tx moment p (delete_edits q) o) ≡ cond (same_path p q) false (is_owned s o)
+deleted_owner tx moment s p [] o = removed (same_path p []) o
+  where
+    removed : (b : Bool) (o : Option Node) → is_owned s (cond b None o) ≡ cond b false (is_owned s o)
+    removed true o = refl
+    removed false o = refl
+deleted_owner tx moment s p (n ∷ q) o = dropped_owner tx moment s (last_name (n ∷ q)) (same_path p (parent (n ∷ q))) (cond (same_path p (n ∷ q)) None o) ∙ removed (same_path p (n ∷ q)) o
+  where
+    removed : (b : Bool) (o : Option Node) → is_owned s (cond b None o) ≡ cond b false (is_owned s o)
+    removed true o = refl
+    removed false o = refl
+
+deletes_owner : (tx moment s : ℕ) (p : PathNames) (ps : List PathNames) (o : Option Node) → is_owned s (edited tx moment p (deletes_edits ps) o) ≡ cond (has_path p ps) false (is_owned s o)
+deletes_owner tx moment s p [] o = refl
+deletes_owner tx moment s p (q ∷ ps) o =
+    ap (is_owned s) (edited_append tx moment p (delete_edits q) (deletes_edits ps) o)
+    ∙ deletes_owner tx moment s p ps (edited tx moment p (delete_edits q) o)
+    ∙ ap (cond (has_path p ps) false) (deleted_owner tx moment s p q o)
+    ∙ joined (same_path p q) (has_path p ps) (is_owned s o)
+  where
+    joined : (a b c : Bool) → cond b false (cond a false c) ≡ cond (a || b) false c
+    joined true true c = refl
+    joined true false c = refl
+    joined false b c = refl
+
+close_leaves : (v : View) (a : Applied) (r : Request) (p : PathNames) → GoneIs v a.session r a.gone → closes r ≡ true → is_owned a.session (edited a.tx a.moment p (effects_of a r) (v.node p)) ≡ false
+close_leaves v a (request.Create q bytes seq eph) p g c = absurd (false≢true c)
+close_leaves v a (request.Set q bytes version) p g c = absurd (false≢true c)
+close_leaves v a (request.Delete q version) p g c = absurd (false≢true c)
+close_leaves v a (request.Close evict) p g c = deletes_owner a.tx a.moment a.session p a.gone (v.node p) ∙ ap (λ b. cond b false (is_owned a.session (v.node p))) (g.1 p) ∙ none (is_owned a.session (v.node p))
+  where
+    none : (b : Bool) → cond b false b ≡ false
+    none true = refl
+    none false = refl
+close_leaves v a (request.Multi xs) p g c = absurd (false≢true c)
+
+pub close_leaves_none : CloseLeavesNone
+close_leaves_none v a p f c = close_leaves v a a.request p f.gone c
 
 -- OWNED PATHS
 abbrev owner_is : ℕ → Option Bare → Bool

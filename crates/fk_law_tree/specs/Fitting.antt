@@ -1,9 +1,10 @@
 -- A request as it is filled from a view.
-use Rattle.std.specs.Prelude.{◌≡◌, ◌<◌, ℕ, true, List, [], None}
+use Rattle.std.specs.Prelude.{◌≡◌, ◌<◌, ℕ, true, false, List, [], None}
 use Rattle.fk_base.specs.Path.{PathNames, path_cmp}
 use Rattle.fk_tree.specs.Sorted.{has_path, rises}
 use Rattle.fk_tree.specs.View.{View, look}
 use Rattle.fk_tree.specs.Tree.{Tree}
+use Rattle.fk_tree.specs.Edit.{closes, after}
 use Rattle.fk_tree.specs.Fill.{fill_name, fill_version, fill_made}
 use Rattle.fk_tree.specs.Check.{check}
 use Rattle.fk_tree.specs.Apply.{IsFilled}
@@ -29,3 +30,7 @@ pub record Fits (v : View) (a : Applied) : Type 0 where
 -- what fits what a tree shows is what is filled on the tree
 abbrev pub FitsWhatIsShown : Type 0
 FitsWhatIsShown = (t : Tree) (a : Applied) → (Fits (look t) a → IsFilled t a) × (IsFilled t a → Fits (look t) a)
+
+-- after a close that fits, its session owns no node
+abbrev pub CloseLeavesNone : Type 0
+CloseLeavesNone = (v : View) (a : Applied) (p : PathNames) → Fits v a → closes a.request ≡ true → is_owned a.session ((after v a).node p) ≡ false

@@ -10,7 +10,8 @@ use Rattle.fk_tree.specs.declared.applied.Applied.{Applied}
 use Rattle.fk_tree.specs.declared.node.Node.{Node}
 use Rattle.fk_tree.specs.declared.request.Request.{Request}
 use Rattle.fk_tree.specs.declared.request.Request.TheVariants as request
-use Rattle.fk_law_tree.specs.Fitting.{Fits, GoneIs}
+use Rattle.fk_law_tree.specs.Fitting.{Fits}
+use Rattle.fk_law_tree.specs.Owners.{is_owned}
 use Rattle.fk_law_tree.specs.Reading.{reads, AgreeOn}
 
 -- each of these paths is among those
@@ -39,11 +40,20 @@ ReadsAreLocked = (v : View) (owned : List PathNames) (session : ℕ) (r : Reques
 abbrev pub ReadsAreEdited : Type 0
 ReadsAreEdited = (v : View) (a : Applied) → Fits v a → Within (reads v a.session a.request) (edited_paths a)
 
+-- each path whose node the session of a close owns is among these
+abbrev pub ListsOwned : View → ℕ → Request → List PathNames → Type 0
+ListsOwned v session (request.Close evict) ps = (p : PathNames) → is_owned session (v.node p) ≡ true → has_path p ps ≡ true
+ListsOwned v session _ ps = Unit {0}
+
+-- what a request that fits removes is among the owned paths, where these list all
+abbrev pub GoneIsOwned : Type 0
+GoneIsOwned = (v : View) (owned : List PathNames) (a : Applied) → Fits v a → ListsOwned v a.session a.request owned → Within a.gone owned
+
 -- What fits a view fits each other view with the same nodes where it edits, and its session closed in
--- both or in none; a close fits where its session still owns the same paths.
+-- both or in none; of a close, where it still removes all that its session owns.
 abbrev pub FitsByItsEdits : Type 0
 FitsByItsEdits =
-    (v w : View) (a : Applied) → Fits v a → v.closed a.session ≡ w.closed a.session → AgreeOn v w (edited_paths a) → GoneIs w a.session a.request a.gone
+    (v w : View) (a : Applied) → Fits v a → v.closed a.session ≡ w.closed a.session → AgreeOn v w (edited_paths a) → ListsOwned w a.session a.request a.gone
     → Fits w a
 
 -- two views with the same nodes where a request is locked give the same lock paths

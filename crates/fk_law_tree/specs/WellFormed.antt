@@ -1,14 +1,17 @@
 -- Trees whose nodes have their parents.
-use Rattle.std.specs.Prelude.{◌≡◌, ◌≢◌, ◌==◌, Bool, true, false, [], ◌∷◌, ◌++◌, Option, Some, None, is_some}
+use Rattle.std.specs.Prelude.{◌≡◌, ◌≢◌, ◌==◌, Bool, true, false, [], ◌∷◌, ◌++◌, Option, Some, None, is_some, ℕ, List}
 use Rattle.fk_base.specs.Path.{Name, PathNames}
 use Rattle.fk_tree.specs.Sorted.{has_path}
 use Rattle.fk_tree.specs.Tree.{Tree}
-use Rattle.fk_tree.specs.View.{look}
+use Rattle.fk_tree.specs.View.{look, View}
 use Rattle.fk_tree.specs.Apply.{apply, IsFilled}
 use Rattle.fk_tree.specs.declared.applied.Applied.{Applied}
 use Rattle.fk_tree.specs.declared.node.Node.{Node}
 use Rattle.fk_tree.specs.declared.request.Request.{Request}
 use Rattle.fk_law_tree.specs.Locking.{unlocked}
+use Rattle.fk_tree.specs.Check.{check}
+use Rattle.fk_tree.specs.Locks.{lock_paths}
+use Rattle.fk_law_tree.specs.Reading.{AgreeOn, SameFill}
 
 -- a node is there, and it has no owner
 abbrev pub is_unowned : Option Node → Bool
@@ -31,3 +34,11 @@ OwnersHaveNoChild = (t : Tree) (p : PathNames) (n : Node) → IsWellFormed t →
 -- in a well-formed tree what is read and not locked isn't there
 abbrev pub UnlockedIsMissing : Type 0
 UnlockedIsMissing = (t : Tree) (r : Request) (p : PathNames) → IsWellFormed t → has_path p (unlocked (look t) r) ≡ true → (look t).node p ≡ None
+
+-- What is locked for a request is enough in a well-formed tree: a view that shows the same where it is
+-- locked, and no other node, gives the same check and fills the same.
+abbrev pub LockedIsEnough : Type 0
+LockedIsEnough =
+    (t : Tree) (v : View) (owned : List PathNames) (session : ℕ) (r : Request) → IsWellFormed t → v.closed session ≡ (look t).closed session
+    → AgreeOn v (look t) (lock_paths v owned r) → ((p : PathNames) → has_path p (lock_paths v owned r) ≡ false → v.node p ≡ None)
+    → (check v session r ≡ check (look t) session r) × SameFill v (look t) session r

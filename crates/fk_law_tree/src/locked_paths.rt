@@ -1,4 +1,4 @@
-ghost use Rattle.fk_law_tree.specs.Locking.{EditsAreLocked, FitsByItsEdits, LocksReadLocked, ReadsAreEdited, ReadsAreLocked};
+ghost use Rattle.fk_law_tree.specs.Locking.{EditsAreLocked, FitsByItsEdits, GoneIsOwned, LocksReadLocked, ReadsAreEdited, ReadsAreLocked};
 
 /// A law: a request that fits edits only what is locked for it.
 pub fn edits_are_locked()
@@ -24,4 +24,9 @@ pub fn fits_by_its_edits()
 /// A law: the lock paths of a request are decided by what is locked.
 pub fn locks_read_what_is_locked()
     ensures { LocksReadLocked }
+{}
+
+/// A law: what a close removes is among the owned paths, where these list all.
+pub fn gone_is_owned()
+    ensures { GoneIsOwned }
 {}

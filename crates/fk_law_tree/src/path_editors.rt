@@ -1,4 +1,4 @@
-ghost use Rattle.fk_law_tree.specs.Editors.{OnlyEditorsCount, OnlyItsEditsCount, UneditedStays};
+ghost use Rattle.fk_law_tree.specs.Editors.{OnlyEditorsCount, OnlyItsEditsCount, OwnedWasEdited, SameEditors, UneditedStays};
 
 /// A law: edits leave at a path what the edits of that path leave.
 pub fn only_its_edits_count()
@@ -12,5 +12,11 @@ pub fn unedited_stays()
 
 /// A law: after applied requests a path has the node that its editors alone leave there.
 pub fn only_editors_count()
-    ensures { OnlyEditorsCount }
+    ensures count { OnlyEditorsCount }
+    ensures same { SameEditors }
+{}
+
+/// A law: a node that a session owns was edited.
+pub fn owned_was_edited()
+    ensures { OwnedWasEdited }
 {}

@@ -1,6 +1,6 @@
 ghost use Rattle.fk_law_tree.specs.Fitting.{FitsWhatIsShown};
 ghost use Rattle.fk_law_tree.specs.Following.{AppliedByPath, AppliedIsAfter, TreesAreViews, ViewsAreTrees};
-ghost use Rattle.fk_law_tree.specs.WellFormed.{KeepsWellFormed, OwnersHaveNoChild, UnlockedIsMissing};
+ghost use Rattle.fk_law_tree.specs.WellFormed.{KeepsWellFormed, LockedIsEnough, OwnersHaveNoChild, UnlockedIsMissing};
 
 /// A law: an applied request does at each path what its edits of that path do.
 pub fn apply_by_path()
@@ -21,6 +21,11 @@ pub fn owners_have_no_child()
 /// A law: what a request reads that isn't locked for it isn't there.
 pub fn unlocked_is_missing()
     ensures { UnlockedIsMissing }
+{}
+
+/// A law: what is locked for a request decides its check and what is filled.
+pub fn locked_is_enough()
+    ensures { LockedIsEnough }
 {}
 
 /// A law: what fits what a tree shows is what is filled on the tree.
