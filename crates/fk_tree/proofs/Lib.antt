@@ -1,11 +1,11 @@
-mod Deletes
+pub mod Deletes
 mod Keeping
 mod Listing
-mod Order
-mod Parents
-mod Rising
+pub mod Order
+pub mod Parents
+pub mod Rising
 mod Samples
 mod Sorting
 mod Standing
-mod Views
+pub mod Views
 mod Written

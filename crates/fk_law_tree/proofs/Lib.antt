@@ -1,0 +1,11 @@
+mod Applying
+mod Counting
+mod Growing
+mod Holding
+mod Lists
+mod Members
+mod Owning
+mod Passing
+mod Reading
+mod Touching
+mod Whole

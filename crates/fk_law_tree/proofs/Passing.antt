@@ -1,0 +1,107 @@
+-- What holds where a request passes.
+use Rattle.std.proofs.Common.{◌≡◌, ℕ, suc, ℤ, Bool, true, false, cond, eqb, ◌||◌, List, [], ◌∷◌, ◌++◌, Option, Some, None, refl, ap}
+use Rattle.std.specs.Prelude.{is_some}
+use Rattle.fk_base.specs.Path.{Name, PathNames, parent, is_root}
+use Rattle.fk_base.specs.declared.code.Code.{Code}
+use Rattle.fk_base.specs.declared.code.Code.TheVariants as code
+use Rattle.fk_tree.specs.View.{View}
+use Rattle.fk_tree.specs.Fill.{final_path, after_part}
+use Rattle.fk_tree.specs.Check.{Refusal, check, check_create, check_under, check_delete, check_part, check_parts, check_open, at_place, or_else, is_version, has_names}
+use Rattle.fk_tree.specs.declared.node.Node.{Node}
+use Rattle.fk_tree.specs.declared.request.Part.{Part}
+use Rattle.fk_tree.specs.declared.request.Request.{Request}
+
+-- the path of a child, and its parent
+pub parent_child : (p : PathNames) (n : Name) → parent (p ++ n ∷ []) ≡ p
+parent_child [] n = refl
+parent_child (x ∷ []) n = refl
+parent_child (x ∷ y ∷ p) n = ap (λ q. x ∷ q) (parent_child (y ∷ p) n)
+
+pub child_below_root : (p : PathNames) (n : Name) → is_root (p ++ n ∷ []) ≡ false
+child_below_root [] n = refl
+child_below_root (x ∷ p) n = refl
+
+pub final_parent : (p : PathNames) (seq : Bool) (made : ℕ) → parent (final_path p seq made) ≡ parent p
+final_parent p true made = parent_child (parent p) _
+final_parent p false made = refl
+
+pub final_below_root : (p : PathNames) (seq : Bool) (made : ℕ) → is_root p ≡ false → is_root (final_path p seq made) ≡ false
+final_below_root p true made e = child_below_root (parent p) _
+final_below_root p false made e = e
+
+-- what passes for a session passes the checks behind that of the session
+pub passed_open : (v : View) (s : ℕ) (r : Request) → check v s r ≡ None → check_open v s r ≡ None
+passed_open v s r e = step (v.closed s) (record { code = code.SessionExpired; place = 0 }) e
+  where
+    step : (b : Bool) (x : Refusal) → cond b (Some x) (check_open v s r) ≡ None → check_open v s r ≡ None
+    step true x e = absurd (cc)
+    step false x e = e
+
+pub placed_none : (place : ℕ) (o : Option Code) → at_place place o ≡ None → o ≡ None
+placed_none place None e = refl
+placed_none place (Some c) e = absurd (cc)
+
+else_left : (o x : Option Refusal) → or_else o x ≡ None → o ≡ None
+else_left None x e = refl
+else_left (Some r) x e = absurd (cc)
+
+else_right : (o x : Option Refusal) → or_else o x ≡ None → x ≡ None
+else_right None x e = e
+else_right (Some r) x e = absurd (cc)
+
+-- where parts pass, the first does, and the others do after it
+pub first_passes : (v : View) (session place : ℕ) (x : Part) (xs : List Part) → check_parts v session place (x ∷ xs) ≡ None → check_part v x ≡ None
+first_passes v session place x xs e = placed_none place (check_part v x) (else_left (at_place place (check_part v x)) (check_parts (after_part v session x) session (suc place) xs) e)
+
+pub others_pass : (v : View) (session place : ℕ) (x : Part) (xs : List Part) → check_parts v session place (x ∷ xs) ≡ None → check_parts (after_part v session x) session (suc place) xs ≡ None
+others_pass v session place x xs e = else_right (at_place place (check_part v x)) (check_parts (after_part v session x) session (suc place) xs) e
+
+-- a create that passes: below the root, under a node without an owner, at a free path
+pub record CreatePasses (v : View) (p : PathNames) (seq : Bool) : Type 0 where
+  pub below_root : is_root p ≡ false
+  pub above : Node
+  pub there : v.node (parent p) ≡ Some above
+  pub free : is_some (v.node (final_path p seq above.made)) ≡ false
+  pub unowned : eqb above.owner 0 ≡ true
+
+pub passed_create : (v : View) (p : PathNames) (seq : Bool) → check_create v p seq ≡ None → CreatePasses v p seq
+passed_create v [] seq e = absurd (cc)
+passed_create v (n ∷ p) seq e = under (v.node (parent (n ∷ p))) refl e
+  where
+    first : (b c : Bool) → cond {A = Option Code} b (Some code.NodeExists) (cond c None (Some code.NoChildrenForEphemerals)) ≡ None → b ≡ false
+    first true c e = absurd (cc)
+    first false c e = refl
+
+    second : (b c : Bool) → cond {A = Option Code} b (Some code.NodeExists) (cond c None (Some code.NoChildrenForEphemerals)) ≡ None → c ≡ true
+    second true c e = absurd (cc)
+    second false true e = refl
+    second false false e = absurd (cc)
+
+    under : (o : Option Node) → v.node (parent (n ∷ p)) ≡ o → check_under v (n ∷ p) seq o ≡ None → CreatePasses v (n ∷ p) seq
+    under None s e = absurd (cc)
+    under (Some d) s e = record { below_root = refl; above = d; there = s; free = first (is_some (v.node (final_path (n ∷ p) seq d.made))) (eqb d.owner 0) e; unowned = second (is_some (v.node (final_path (n ∷ p) seq d.made))) (eqb d.owner 0) e }
+
+-- a delete that passes: below the root, of a node without children
+pub record DeletePasses (v : View) (p : PathNames) : Type 0 where
+  pub below_root : is_root p ≡ false
+  pub gone : Node
+  pub there : v.node p ≡ Some gone
+  pub childless : has_names gone.names ≡ false
+
+pub passed_delete : (v : View) (p : PathNames) (expected : ℤ) → check_delete p expected (v.node p) ≡ None → DeletePasses v p
+passed_delete v p expected e = under (v.node p) refl e
+  where
+    second : (b c r : Bool) → cond {A = Option Code} b (cond (c || r) (Some code.NotEmpty) None) (Some code.BadVersion) ≡ None → r ≡ false
+    second true true r e = absurd (cc)
+    second true false true e = absurd (cc)
+    second true false false e = refl
+    second false c r e = absurd (cc)
+
+    first : (b c r : Bool) → cond {A = Option Code} b (cond (c || r) (Some code.NotEmpty) None) (Some code.BadVersion) ≡ None → c ≡ false
+    first true true r e = absurd (cc)
+    first true false r e = refl
+    first false c r e = absurd (cc)
+
+    under : (o : Option Node) → v.node p ≡ o → check_delete p expected o ≡ None → DeletePasses v p
+    under None s e = absurd (cc)
+    under (Some n) s e = record { below_root = second (is_version expected n.version) (has_names n.names) (is_root p) e; gone = n; there = s; childless = first (is_version expected n.version) (has_names n.names) (is_root p) e }

@@ -1,0 +1,9 @@
+pub mod Editors
+pub mod Fitting
+pub mod Following
+pub mod Lists
+pub mod Locking
+pub mod Owners
+pub mod Reading
+pub mod Touching
+pub mod WellFormed
