@@ -1,2 +1,7 @@
+pub mod CleanWords
+pub mod CodedData
 pub mod Draws
-pub mod Lines
+pub mod JoinedLines
+pub mod Numerals
+pub mod PrintedLines
+pub mod ReadWords

@@ -85,7 +85,7 @@ fn put_read(out: &mut Bytes, verb: &str, watch: bool, path: &Text) -> Result<(),
 }
 
 /// Writes a line that begins with `&` where the client doesn't wait.
-#[tactic(auto, using(crate::proofs::Lines::line_begins))]
+#[tactic(auto, using(crate::proofs::PrintedLines::line_begins))]
 fn put_write(out: &mut Bytes, wait: bool, verb: &str, pieces: &[Piece]) -> Result<(), NoMemory>
     ensures { OnOk result (out.new ≡ out.old ++ line_text (and_words wait ++ verb.now ∷ words_of pieces.now)) }
 {
