@@ -43,15 +43,19 @@ is_no_client names (Some name) = not (is_one_of names name)
 -- a client's place among the names, from 1
 abbrev pub session : List Word → Word → ℕ
 session [] name = 0
-session (n ∷ ns) name = if is n name then 1 else session ns name + 1
+session (n ∷ ns) name = if is name n then 1 else session ns name + 1
 
 abbrev pub number_of : Word → ℕ
 number_of word = unwrap_or (number most_event word) 0
 
+-- a function starts on the head of a lane
+abbrev pub delivery_of : List Word → Word → Event
+delivery_of names v = if is v (codes "leader") then event.Leader else if is v (codes "watch") then event.Watch else event.Deliver (session names v)
+
 -- the event of a name and the word behind it
 abbrev pub event_of : List Word → Word → Word → Event
 event_of names w v = if is w (codes "client") then event.Client (session names v)
-    else if is w (codes "deliver") then (if is v (codes "leader") then event.Leader else if is v (codes "watch") then event.Watch else event.Deliver (session names v))
+    else if is w (codes "deliver") then delivery_of names v
     else if is w (codes "beat") then event.Beat (session names v)
     else if is w (codes "step") then event.Step (number_of v)
     else if is w (codes "crash") then event.Crash (number_of v)

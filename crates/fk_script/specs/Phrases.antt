@@ -109,15 +109,19 @@ abbrev pub expected : Option Word → ℤ
 expected None = negsuc 0
 expected (Some word) = unwrap_or (version word) (negsuc 0)
 
+-- a command that writes nothing
+abbrev pub read_of : Word → Phrase → Command
+read_of path p = if is p.name (codes "get") then command.Get path (has_option (codes "-w") p)
+    else if is p.name (codes "stat") then command.Stat path (has_option (codes "-w") p)
+    else if is p.name (codes "ls") then command.Ls path (has_option (codes "-w") p)
+    else command.Close
+
 -- the command
 abbrev pub command_of : Bool → Phrase → Command
 command_of wait p = if is p.name (codes "create") then command.Create (first p.rest) (bytes p) (has_option (codes "-s") p) (has_option (codes "-e") p) wait
     else if is p.name (codes "set") then command.Set (first p.rest) (bytes p) (expected p.version) wait
     else if is p.name (codes "delete") then command.Delete (first p.rest) (expected p.version) wait
-    else if is p.name (codes "get") then command.Get (first p.rest) (has_option (codes "-w") p)
-    else if is p.name (codes "stat") then command.Stat (first p.rest) (has_option (codes "-w") p)
-    else if is p.name (codes "ls") then command.Ls (first p.rest) (has_option (codes "-w") p)
-    else command.Close
+    else read_of (first p.rest) p
 
 -- the part of a multi
 abbrev pub part_of : Phrase → PartCommand
