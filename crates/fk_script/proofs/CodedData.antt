@@ -53,7 +53,7 @@ symbols_inner (b ∷ bs) h =
     let both = and_parts (is_symbol b) (list_all is_symbol bs) h in
     and_from (is_inner b) (list_all is_inner bs) (and_parts (is_inner b) (not (b == 59)) both.0).0 (symbols_inner bs both.1)
 
-empty_cons : (b : ℕ) (bs : List ℕ) → is_empty (b ∷ bs) ≡ false
+pub empty_cons : (b : ℕ) (bs : List ℕ) → is_empty (b ∷ bs) ≡ false
 empty_cons b bs = grind (arith, nat_tests)
 
 full : (t : List ℕ) (b : ℕ) (bs pad : List ℕ) → is_empty (encode_symbols t (b ∷ bs) ++ pad) ≡ false

@@ -28,11 +28,14 @@ digits_plain (d ∷ ds) h =
     let both = and_parts (is_ascii_digit d) (all_ascii_digits ds) h in
     and_from (is_plain d) (list_all is_plain ds) (digit_plain d both.0) (digits_plain ds both.1)
 
+pub number_plain : (n : ℕ) → n < 2 ^ 64 → list_all is_plain (decimal n) ≡ true
+number_plain n h = digits_plain (decimal n) (digits_decimal own n h)
+
 full_test : (w : List ℕ) → 0 < length w → is_empty w ≡ false
 full_test w h = grind (arith, nat_tests)
 
 pub number_word : (n : ℕ) → n < 2 ^ 64 → IsWord (decimal n)
-number_word n h = plain_word (decimal n) (full_test (decimal n) (decimal_nonempty n h)) (digits_plain (decimal n) (digits_decimal own n h))
+number_word n h = plain_word (decimal n) (full_test (decimal n) (decimal_nonempty n h)) (number_plain n h)
 
 one_test : (d : ℕ) (ds : List ℕ) → (d ≡ 48 → length (d ∷ ds) ≡ 1) → (not (d == 48) || (length ds == 0)) ≡ true
 one_test d ds one = grind (arith, nat_tests)
@@ -63,6 +66,16 @@ no_sign (d ∷ ds) h = sign_test d (is ds (codes "1")) (and_parts (is_ascii_digi
   where
     sign_test : (d : ℕ) (r : Bool) → is_ascii_digit d ≡ true → ((d == 45) && r) ≡ false
     sign_test d r h = grind (arith, nat_tests)
+
+digits_apart : (ds : List ℕ) → all_ascii_digits ds ≡ true → is ds (codes ";") ≡ false
+digits_apart [] h = refl
+digits_apart (d ∷ ds) h = apart_test d (is ds []) (and_parts (is_ascii_digit d) (all_ascii_digits ds) h).0
+  where
+    apart_test : (d : ℕ) (r : Bool) → is_ascii_digit d ≡ true → ((d == 59) && r) ≡ false
+    apart_test d r h = grind (arith, nat_tests)
+
+pub number_apart : (n : ℕ) → n < 2 ^ 64 → is (decimal n) (codes ";") ≡ false
+number_apart n h = digits_apart (decimal n) (digits_decimal own n h)
 
 pub version_back : (n : ℕ) → n ≤ most_version → version (decimal n) ≡ Some (pos n)
 version_back n l =

@@ -10,3 +10,4 @@ pub mod Reading
 pub mod Reasons
 pub mod SoFar
 pub mod Values
+pub mod WorkedScripts

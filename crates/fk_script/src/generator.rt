@@ -3,6 +3,7 @@
 ghost use Rattle.std.specs.Prelude.{◌≡◌, ◌*◌, ◌/◌, ◌^◌, ◌≤◌, ◌<◌, IfOk, OnOk, true};
 ghost use Rattle.std.specs.Fmt.{decimal};
 ghost use Rattle.fk_script.specs.Generate.{generated, generated_block, generated_command, generated_turn, generated_turns, next_state, node_path, state_after};
+ghost use Rattle.fk_script.specs.PrintLaws.{IsMeant};
 
 use crate::command::Command;
 use crate::deployment::{Block, Deployment, Turn};
@@ -35,11 +36,14 @@ impl Draws {
 
 /// The deployment of a number: four clients with `size` commands each, and a schedule of 20 times
 /// as many turns.
-#[tactic(auto, using(crate::proofs::Draws::second_client, crate::proofs::Draws::third_client, crate::proofs::Draws::behind_clients))]
+#[tactic(auto, using(crate::proofs::Draws::second_client, crate::proofs::Draws::third_client, crate::proofs::Draws::behind_clients, crate::proofs::Returning::generated_meant))]
 pub fn generate(alloc: Global, number: u64, size: u64) -> Result<Deployment, NoMemory>
     requires least { 1 ≤ size }
     requires most { size ≤ 500 }
-    ensures { IfOk result (λ d. d ≡ generated number size) }
+    ensures generated { IfOk result (λ d. d ≡ generated number size) }
+
+    // A file could say it.
+    ensures meant { IfOk result IsMeant }
 {
     let mut draws = Draws { state: number };
     let mut clients = Clients::new(alloc);

@@ -24,8 +24,10 @@ pub use deployment::{Block, Deployment, Turn};
 pub use generator::generate;
 pub use lists::{Clients, Commands, PartCommands, Turns};
 pub use print::print_script;
-pub use print_laws::printed_reads_back;
+pub use print_laws::{generated_is_meant, printed_reads_back, worked_script};
 pub use why::Why;
 
+#[cfg(test)]
+mod print_tests;
 #[cfg(test)]
 mod tests;

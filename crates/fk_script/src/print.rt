@@ -4,7 +4,9 @@ ghost use Rattle.std.specs.Prelude.{◌≡◌, ◌++◌, IfOk, OnOk, true};
 ghost use Rattle.std.specs.List.{flat_map};
 ghost use Rattle.fk_print.specs.EventText.{event_words};
 ghost use Rattle.fk_print.specs.Words.{client};
+ghost use Rattle.fk_script.specs.PrintLaws.{IsMeant};
 ghost use Rattle.fk_script.specs.Printed.{block_names, block_text, deployment_text, line_text, schedule_text, turn_words};
+ghost use Rattle.fk_script.specs.Reading.{Means, deployment_of};
 
 use crate::deployment::{Block, Deployment, Turn};
 use crate::piece::{Piece, put_line};
@@ -14,8 +16,12 @@ use fk_print::Event;
 use std::alloc::Global;
 
 /// The one printed form of a deployment.
+#[tactic(auto, using(crate::proofs::Returning::text_reads_back))]
 pub fn print_script(alloc: Global, deployment: &Deployment) -> Result<Bytes, NoMemory>
     ensures printed { IfOk result (λ text. text ≡ deployment_text deployment.now) }
+
+    // Where some bytes mean the deployment, these do.
+    ensures reads_back { IfOk result (λ text. IsMeant deployment.now → deployment_of text ≡ Means deployment.now) }
 {
     let mut out = Bytes::new(alloc);
     let clients = deployment.clients.as_slice();
