@@ -6,3 +6,4 @@ pub mod Reading
 pub mod Reasons
 pub mod SoFar
 pub mod Values
+pub mod WorkedFiles

@@ -16,6 +16,7 @@ mod read;
 mod values;
 mod why;
 mod words;
+mod worked;
 
 pub use command::{Command, PartCommand};
 pub use deployment::{Block, Deployment, Turn};
@@ -23,6 +24,7 @@ pub use fault::ScriptFault;
 pub use lists::{Clients, Commands, PartCommands, Turns};
 pub use read::read_script;
 pub use why::Why;
+pub use worked::{crowded_is_read, offenders_are_judged, service_is_read};
 
 #[cfg(test)]
 mod tests;
