@@ -3,6 +3,9 @@ pub mod CodedData
 pub mod Draws
 pub mod GeneratedSound
 pub mod JoinedLines
+pub mod LastClient
+pub mod LineCuts
+pub mod LinesRead
 pub mod NumberWords
 pub mod Numerals
 pub mod Passing

@@ -10,4 +10,5 @@ pub mod Reading
 pub mod Reasons
 pub mod SoFar
 pub mod Values
+pub mod WorkedFiles
 pub mod WorkedScripts

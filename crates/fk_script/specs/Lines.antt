@@ -17,10 +17,13 @@ abbrev pub onto_line : ℕ → List Line → List Line
 onto_line byte [] = record { text = byte ∷ []; ended = false } ∷ []
 onto_line byte (l ∷ ls) = record { text = byte ∷ l.text; ended = l.ended } ∷ ls
 
+abbrev pub is_line_feed : ℕ → Bool
+is_line_feed byte = byte == 10
+
 -- Each line feed ends a line. What is left behind the last one is a line without a line feed, unless it is empty.
 abbrev pub lines : List ℕ → List Line
 lines [] = []
-lines (b ∷ bs) = if b == 10 then record { text = []; ended = true } ∷ lines bs else onto_line b (lines bs)
+lines (b ∷ bs) = if is_line_feed b then record { text = []; ended = true } ∷ lines bs else onto_line b (lines bs)
 
 abbrev pub is_empty : Word → Bool
 is_empty word = length word == 0

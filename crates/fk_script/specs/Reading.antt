@@ -1,6 +1,8 @@
 -- What the bytes of a deployment file mean: the grammar of the file.
-use Rattle.std.specs.Prelude.{ℕ, ◌+◌, List, [], ◌∷◌, length, Option, Some, None}
+use Rattle.std.specs.Prelude.{◌≡◌, ℕ, ◌+◌, List, [], ◌∷◌, length, Option, Some, None}
 use Rattle.fk_script.specs.declared.deployment.Deployment.{Deployment}
+use Rattle.fk_script.specs.declared.fault.ScriptFault.{ScriptFault}
+use Rattle.fk_script.specs.declared.fault.ScriptFault.TheVariants.{Bad, NoMemory}
 use Rattle.fk_script.specs.declared.why.Why.{Why}
 use Rattle.fk_script.specs.Lines.{Word, Line, lines, words}
 use Rattle.fk_script.specs.SoFar.{so_far, meant}
@@ -24,3 +26,8 @@ reading_after before (l ∷ ls) = unless (offence (so_far before) l) (length bef
 -- what the bytes mean
 abbrev pub deployment_of : List ℕ → Reading
 deployment_of bytes = reading_after [] (lines bytes)
+
+-- A fault tells the offence; want of memory may come at any bytes.
+abbrev pub Tells : Reading → ScriptFault → Type 0
+Tells reading (Bad line why) = reading ≡ Offends line why
+Tells reading NoMemory = Unit {0}
