@@ -19,7 +19,7 @@ use Rattle.fk_script.specs.declared.deployment.Turn.TheVariants as turn
 use Rattle.fk_script.proofs.CleanWords.{IsWord, plain_word}
 use Rattle.fk_script.proofs.CodedData.{decoded_back, empty_cons}
 use Rattle.fk_script.proofs.Numerals.{number_plain, number_word}
-use Rattle.fk_script.proofs.ReadWords.{utf8_bytes}
+use Rattle.fk_script.proofs.TextWords.{utf8_bytes}
 use Rattle.fk_script.proofs.Sound.{IsPath, IsData, IsCommand, IsSession, IsTurn, IsSound, command_weight, commands_weight}
 
 all_append : (xs ys : List ℕ) → list_all is_plain xs ≡ true → list_all is_plain ys ≡ true → list_all is_plain (xs ++ ys) ≡ true

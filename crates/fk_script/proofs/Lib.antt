@@ -15,9 +15,9 @@ pub mod PrintedLines
 pub mod PrintedPhrases
 pub mod PrintedTurns
 pub mod PrintedWords
-pub mod ReadCommands
-pub mod ReadLines
-pub mod ReadTurns
-pub mod ReadWords
 pub mod Returning
 pub mod Sound
+pub mod SoundCommands
+pub mod SoundLines
+pub mod SoundTurns
+pub mod TextWords

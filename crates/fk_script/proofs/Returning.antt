@@ -9,7 +9,7 @@ use Rattle.fk_script.specs.declared.deployment.Deployment.{Deployment}
 use Rattle.fk_script.proofs.GeneratedSound.{generated_is_sound}
 use Rattle.fk_script.proofs.Passing.{reading_was}
 use Rattle.fk_script.proofs.PrintedDeployment.{sound_reads_back}
-use Rattle.fk_script.proofs.ReadLines.{read_is_sound}
+use Rattle.fk_script.proofs.SoundLines.{read_is_sound}
 use Rattle.fk_script.proofs.Sound.{IsSound}
 
 pub meant_reads_back : PrintedReadsBack

@@ -36,7 +36,7 @@ impl Draws {
 
 /// The deployment of a number: four clients with `size` commands each, and a schedule of 20 times
 /// as many turns.
-#[tactic(auto, using(crate::proofs::Draws::second_client, crate::proofs::Draws::third_client, crate::proofs::Draws::behind_clients, crate::proofs::Returning::generated_meant))]
+#[tactic(auto, using(crate::proofs::Draws::second_client, crate::proofs::Draws::third_client, crate::proofs::Draws::behind_clients))]
 pub fn generate(alloc: Global, number: u64, size: u64) -> Result<Deployment, NoMemory>
     requires least { 1 ≤ size }
     requires most { size ≤ 500 }

@@ -23,7 +23,7 @@ use Rattle.fk_script.specs.declared.command.PartCommand.{PartCommand}
 use Rattle.fk_script.specs.declared.command.PartCommand.TheVariants as part
 use Rattle.fk_script.proofs.CleanWords.{IsWord, AreWords}
 use Rattle.fk_script.proofs.CodedData.{decoded_back}
-use Rattle.fk_script.proofs.ReadWords.{utf8_bytes}
+use Rattle.fk_script.proofs.TextWords.{utf8_bytes}
 use Rattle.fk_script.proofs.Sound.{IsPath, IsPartPath, IsData, IsVersion, IsPart, AreParts, IsCommand, command_weight}
 
 -- the words from the path on, which doesn't start with `-`

@@ -27,9 +27,9 @@ use Rattle.fk_script.specs.declared.why.Why.TheVariants as why
 use Rattle.fk_script.proofs.CleanWords.{AreWords}
 use Rattle.fk_script.proofs.JoinedLines.{is_fed}
 use Rattle.fk_script.proofs.Passing.{after_line, passes, unless_off}
-use Rattle.fk_script.proofs.ReadCommands.{command_read}
-use Rattle.fk_script.proofs.ReadTurns.{turn_read}
-use Rattle.fk_script.proofs.ReadWords.{words_read}
+use Rattle.fk_script.proofs.SoundCommands.{command_read}
+use Rattle.fk_script.proofs.SoundTurns.{turn_read}
+use Rattle.fk_script.proofs.TextWords.{words_read}
 use Rattle.fk_script.proofs.Sound.{IsCommand, IsBlock, IsTurn, IsSound, command_weight, commands_weight, blocks_weight, are_new}
 
 -- the tests that a line passed whose words give no reason
