@@ -1,7 +1,7 @@
 -- The states that draws leave, and what is made of them one more at a time.
-use Rattle.std.proofs.Common.{◌≡◌, ℕ, zero, suc, ◌+◌, ◌*◌, ◌/◌, ◌%◌, ◌<◌, List, [], ◌∷◌, ◌++◌, refl, sym, ◌∙◌, ap, arith, add-one, add-suc, add-zero}
+use Rattle.std.proofs.Common.{◌≡◌, ℕ, zero, suc, ◌+◌, ◌*◌, ◌/◌, ◌%◌, [], ◌∷◌, ◌++◌, refl, sym, ◌∙◌, ap, arith, add-one, add-suc, add-zero}
 use Rattle.std.proofs.Math.Nat.{add-mul-mod_self_left}
-use Rattle.fk_script.specs.Generate.{next_state, state_after, draw, generated_command, generated_commands, generated_turn, generated_turns}
+use Rattle.fk_script.specs.Generate.{next_state, state_after, generated_command, generated_commands, generated_turn, generated_turns}
 
 spread : (x : ℕ) → x * 1103515245 + 12345 ≡ ((x % 2147483648) * 1103515245 + 12345) + 2147483648 * (x / 2147483648 * 1103515245)
 spread x = omega arith

@@ -1,22 +1,17 @@
 -- A generated deployment is sound.
-use Rattle.std.proofs.Common.{◌≡◌, ℕ, zero, suc, pos, negsuc, ◌<◌, ◌≤◌, ◌+◌, ◌*◌, ◌%◌, ◌^◌, Bool, true, false, cond, List, [], ◌∷◌, ◌++◌, length, refl, sym, ◌∙◌, ap, subst, codes, arith}
-use Rattle.std.specs.Prelude.{◌==◌, ◌&&◌, nat_le}
+use Rattle.std.proofs.Common.{◌≡◌, ℕ, zero, suc, ◌<◌, ◌≤◌, ◌+◌, ◌*◌, ◌%◌, ◌^◌, Bool, true, false, cond, List, [], ◌∷◌, ◌++◌, length, refl, codes, arith}
+use Rattle.std.specs.Prelude.{◌==◌, nat_le}
 use Rattle.std.specs.Fmt.{decimal}
 use Rattle.std.specs.List.{list_all, AllByRecursion}
 use Rattle.std.proofs.lemmas.Bool.{and_parts, and_from}
 use Rattle.std.proofs.lemmas.List.{length-append}
 use Rattle.std.proofs.lemmas.Nat.{mod_below}
 use Rattle.fk_print.specs.Words.{client, is_plain}
-use Rattle.fk_print.specs.declared.event.Event.{Event}
-use Rattle.fk_print.specs.declared.event.Event.TheVariants as event
-use Rattle.fk_script.specs.Generate.{draw, generated, generated_block, generated_command, generated_commands, generated_turn, generated_turns, node_path, state_after}
+use Rattle.fk_script.specs.Generate.{draw, generated, generated_command, generated_commands, generated_turn, generated_turns, node_path, state_after}
 use Rattle.fk_script.specs.Lines.{Word, is}
-use Rattle.fk_script.specs.Values.{most_event}
 use Rattle.fk_script.specs.declared.command.Command.{Command}
-use Rattle.fk_script.specs.declared.command.Command.TheVariants as command
 use Rattle.fk_script.specs.declared.deployment.Turn.{Turn}
-use Rattle.fk_script.specs.declared.deployment.Turn.TheVariants as turn
-use Rattle.fk_script.proofs.CleanWords.{IsWord, plain_word}
+use Rattle.fk_script.proofs.CleanWords.{plain_word}
 use Rattle.fk_script.proofs.CodedData.{decoded_back, empty_cons}
 use Rattle.fk_script.proofs.Numerals.{number_plain, number_word}
 use Rattle.fk_script.proofs.TextWords.{utf8_bytes}
@@ -53,10 +48,10 @@ command_is j kind node h =
     let d = data_is j h in
     choose (nat_le (kind % 8) 1) _ _ ((own, d), refl)
     (choose (kind % 8 == 2) _ _ ((path_is node (codes "/q") refl, d), refl)
-      (choose (kind % 8 == 3) _ _ ((own, d, refl), refl)
-        (choose (kind % 8 == 4) _ _ (own, refl)
-          (choose (kind % 8 == 5) _ _ (record { word = plain_word (codes "/") refl refl; undashed = refl }, refl)
-            (choose (kind % 8 == 6) _ _ ((own, refl), refl) ((path_is node (codes "/e") refl, d), refl))))))
+    (choose (kind % 8 == 3) _ _ ((own, d, refl), refl)
+    (choose (kind % 8 == 4) _ _ (own, refl)
+    (choose (kind % 8 == 5) _ _ (record { word = plain_word (codes "/") refl refl; undashed = refl }, refl)
+    (choose (kind % 8 == 6) _ _ ((own, refl), refl) ((path_is node (codes "/e") refl, d), refl))))))
 
 push : (cs : List Command) (c : Command) → AllByRecursion IsCommand cs → IsOne c → AllByRecursion IsCommand (cs ++ c ∷ []) × (commands_weight (cs ++ c ∷ []) ≡ commands_weight cs + 1)
 push [] c h g = ((g.0, tt), omega (arith, g.1))
@@ -98,9 +93,9 @@ turn_is i kind about some few =
     let u = unreserved (about % 4) (omega arith) in
     choose_turn (nat_le (kind % 16) 3) _ _ s
     (choose_turn (nat_le (kind % 16) 6) _ _ (s, u.0, u.1)
-      (choose_turn (nat_le (kind % 16) 8) _ _ tt
-        (choose_turn (kind % 16 == 9) _ _ tt
-          (choose_turn (nat_le (kind % 16) 13) _ _ (omega (arith, mod_below about i some)) (choose_turn (kind % 16 == 14) _ _ s (omega arith))))))
+    (choose_turn (nat_le (kind % 16) 8) _ _ tt
+    (choose_turn (kind % 16 == 9) _ _ tt
+    (choose_turn (nat_le (kind % 16) 13) _ _ (omega (arith, mod_below about i some)) (choose_turn (kind % 16 == 14) _ _ s (omega arith))))))
 
 turns_push : (ts : List Turn) (t : Turn) → AllByRecursion (IsTurn names) ts → IsTurn names t → AllByRecursion (IsTurn names) (ts ++ t ∷ [])
 turns_push [] t h g = (g, tt)
@@ -110,9 +105,10 @@ turns_are : (number n : ℕ) → n ≤ 10000 → AllByRecursion (IsTurn names) (
 turns_are number zero h = (tt, refl)
 turns_are number (suc n) h =
     let before = turns_are number n (omega arith) in
-    let t = generated_turn (suc n) (draw number (suc (2 * n))) (draw number (suc (suc (2 * n)))) in
-    (turns_push (generated_turns number n) t before.0 (turn_is (suc n) (draw number (suc (2 * n))) (draw number (suc (suc (2 * n)))) (omega arith) h),
-      omega (arith, before.1, length-append (generated_turns number n) (t ∷ [])))
+    let t = generated_turn (suc n) (draw number (suc (2 * n))) (draw number (suc (suc (2 * n)))) in (
+      turns_push (generated_turns number n) t before.0 (turn_is (suc n) (draw number (suc (2 * n))) (draw number (suc (suc (2 * n)))) (omega arith) h),
+      omega (arith, before.1, length-append (generated_turns number n) (t ∷ [])),
+    )
 
 pub generated_is_sound : (number size : ℕ) → size ≤ 500 → IsSound (generated number size)
 generated_is_sound number size h =

@@ -1,17 +1,16 @@
 -- Printed lines, cut into lines and words again.
-use Rattle.std.proofs.Common.{◌≡◌, ℕ, Bool, true, false, cond, List, [], ◌∷◌, ◌++◌, Option, Some, None, refl, sym, ◌∙◌, ap, codes, append_assoc, arith, lit<}
+use Rattle.std.proofs.Common.{◌≡◌, ℕ, Bool, true, false, cond, List, [], ◌∷◌, ◌++◌, refl, ◌∙◌, ap, codes, append_assoc, lit<}
 use Rattle.std.specs.Prelude.{◌==◌, ◌&&◌, not, filter}
-use Rattle.std.specs.List.{list_all, slice_split, onto_first, flat_map}
+use Rattle.std.specs.List.{list_all, slice_split, onto_first}
 use Rattle.std.specs.Str.{IsUtf8}
 use Rattle.std.proofs.lemmas.List.{append-nil}
 use Rattle.std.proofs.lemmas.Bool.{and_parts, and_from}
-use Rattle.std.proofs.lemmas.Bool.Decides.{nat_tests}
 use Rattle.std.proofs.lemmas.Str.{IsUtf8-append, IsUtf8-from_ascii}
 use Rattle.std.proofs.lemmas.Str.Ascii.{IsAscii-nil, IsAscii-cons}
 use Rattle.fk_print.specs.Words.{spaced}
-use Rattle.fk_script.specs.Lines.{Word, Line, lines, onto_line, words, is_empty, is_space}
+use Rattle.fk_script.specs.Lines.{Word, lines, onto_line, words, is_empty, is_space}
 use Rattle.fk_script.specs.Printed.{line_text}
-use Rattle.fk_script.proofs.CleanWords.{is_inner, IsWord, AreWords}
+use Rattle.fk_script.proofs.CleanWords.{is_inner, AreWords}
 
 -- no line feed
 abbrev pub is_fed : ℕ → Bool

@@ -1,12 +1,11 @@
 -- Reading line by line, by what the lines so far say.
-use Rattle.std.proofs.Common.{◌≡◌, ◌≢◌, ℕ, ◌+◌, Bool, true, false, List, [], ◌∷◌, ◌++◌, Option, Some, None, length, refl, sym, ◌∙◌, ap, subst, codes}
+use Rattle.std.proofs.Common.{◌≡◌, ℕ, ◌+◌, true, List, [], ◌∷◌, ◌++◌, Option, Some, None, length, refl, ◌∙◌, ap}
 use Rattle.std.specs.Str.{is_utf8}
-use Rattle.std.specs.Prelude.{not}
 use Rattle.std.proofs.lemmas.Str.{is_utf8-from_IsUtf8}
 use Rattle.fk_print.specs.Words.{spaced}
 use Rattle.fk_script.specs.Lines.{Word, Line, lines, words}
 use Rattle.fk_script.specs.Printed.{line_text}
-use Rattle.fk_script.specs.Reading.{Reading, Means, Offends, unless, reading_after}
+use Rattle.fk_script.specs.Reading.{Reading, Means, unless, reading_after}
 use Rattle.fk_script.specs.Reasons.{offence, reason}
 use Rattle.fk_script.specs.SoFar.{SoFar, after, kind_of, meant, so_far}
 use Rattle.fk_script.specs.declared.deployment.Deployment.{Deployment}
@@ -79,4 +78,4 @@ passes_line s (w ∷ ws) k rest some a e h =
     let cut : words text ≡ w ∷ ws = words_joined w ws a in
     ap (passes s) (lines_printed w ws rest a)
     ∙ line_passes s text (w ∷ ws) (lines rest) k cut e
-      (offence_is s text (w ∷ ws) (is_utf8-from_IsUtf8 text (text_joined w ws a)) cut ∙ ap (λ j. reason s j (w ∷ ws)) e ∙ h)
+    (offence_is s text (w ∷ ws) (is_utf8-from_IsUtf8 text (text_joined w ws a)) cut ∙ ap (λ j. reason s j (w ∷ ws)) e ∙ h)

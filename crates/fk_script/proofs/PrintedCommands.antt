@@ -1,13 +1,13 @@
 -- The line of a printed command says the command.
-use Rattle.std.proofs.Common.{◌≡◌, ℕ, ℤ, zero, suc, ◌<◌, ◌≤◌, ◌+◌, Bool, true, false, cond, List, [], ◌∷◌, ◌++◌, length, map, refl, sym, ◌∙◌, ap, codes, arith}
-use Rattle.std.specs.Prelude.{◌&&◌, ◌||◌, not, nat_le}
+use Rattle.std.proofs.Common.{◌≡◌, ◌+◌, Bool, true, false, cond, List, [], ◌∷◌, ◌++◌, length, map, refl, ◌∙◌, ap, codes, arith}
+use Rattle.std.specs.Prelude.{◌&&◌, ◌||◌, not}
 use Rattle.std.specs.List.{list_all, list_any, flat_map, slice_split, onto_first, AllByRecursion}
 use Rattle.std.proofs.lemmas.List.{append-nil, length-map}
-use Rattle.std.proofs.lemmas.Bool.{and_parts, le-leb}
-use Rattle.fk_script.specs.CommandLines.{CommandLine, command_line, is_unknown, has_wrong_option, has_wrong_words, has_wrong_version, has_wrong_base64, weight, meant_command}
-use Rattle.fk_script.specs.Lines.{Word, is, is_one_of, starts_with, first}
+use Rattle.std.proofs.lemmas.Bool.{le-leb}
+use Rattle.fk_script.specs.CommandLines.{command_line, is_unknown, has_wrong_option, has_wrong_words, has_wrong_version, has_wrong_base64, weight, meant_command}
+use Rattle.fk_script.specs.Lines.{Word, is, starts_with}
 use Rattle.fk_script.specs.Phrases.{Phrase, phrase, is_command_name, is_always_waited_for, is_unknown_part, has_bad_option, fits, is_bad_version, has_bad_base64, command_of, part_of}
-use Rattle.fk_script.specs.Printed.{and_words, command_words, create_words, set_words, delete_words, read_words, is_coded, is_coded_in_part, part_words, parts_words}
+use Rattle.fk_script.specs.Printed.{and_words, command_words, is_coded, is_coded_in_part, part_words, parts_words}
 use Rattle.fk_script.specs.SoFar.{kind_of}
 use Rattle.fk_script.specs.declared.place.Kind.TheVariants as kind
 use Rattle.fk_script.specs.declared.place.Place.TheVariants as place
@@ -53,15 +53,15 @@ lone : (wait : Bool) (verb : Word) (ws : List Word) (c : Command) → IsVerb ver
     → IsFitting false (phrase (verb ∷ ws)) → command_of wait (phrase (verb ∷ ws)) ≡ c → command_weight c ≡ 1
     → IsCommandLine (and_words wait ++ verb ∷ ws) c
 lone wait verb ws c v w f m one = record {
-    kind = kind_is wait verb ws v;
-    unknown = ap is_unknown (line_is wait verb ws v) ∙ rw (v.full, v.named, v.lone) refl;
-    option = ap has_wrong_option (line_is wait verb ws v) ∙ rw (w, v.lone, f.options) refl;
-    words = ap has_wrong_words (line_is wait verb ws v) ∙ rw (v.lone, f.words) refl;
-    version = ap has_wrong_version (line_is wait verb ws v) ∙ rw f.version refl;
-    base64 = ap has_wrong_base64 (line_is wait verb ws v) ∙ rw f.base64 refl;
-    weight = ap weight (line_is wait verb ws v) ∙ rw (v.lone, one) refl;
-    meant = ap meant_command (line_is wait verb ws v) ∙ rw (v.lone, m) refl;
-  }
+  kind = kind_is wait verb ws v;
+  unknown = ap is_unknown (line_is wait verb ws v) ∙ rw (v.full, v.named, v.lone) refl;
+  option = ap has_wrong_option (line_is wait verb ws v) ∙ rw (w, v.lone, f.options) refl;
+  words = ap has_wrong_words (line_is wait verb ws v) ∙ rw (v.lone, f.words) refl;
+  version = ap has_wrong_version (line_is wait verb ws v) ∙ rw f.version refl;
+  base64 = ap has_wrong_base64 (line_is wait verb ws v) ∙ rw f.base64 refl;
+  weight = ap weight (line_is wait verb ws v) ∙ rw (v.lone, one) refl;
+  meant = ap meant_command (line_is wait verb ws v) ∙ rw (v.lone, m) refl;
+}
 
 -- the parts of a multi, cut at `;`
 abbrev is_semicolon : Word → Bool
@@ -114,20 +114,20 @@ record IsPartPhrase (p : PartCommand) : Type 0 where
 
 part_is : (p : PartCommand) → IsPart p → IsPartPhrase p
 part_is (part.Create path bytes eph) h = record {
-    known = refl;
-    fitting = create_fitting true false eph (is_coded_in_part bytes) path bytes refl h.0.path.undashed h.1;
-    meant = create_part_meant eph (is_coded_in_part bytes) path bytes h.0.path.undashed h.1;
-  }
+  known = refl;
+  fitting = create_fitting true false eph (is_coded_in_part bytes) path bytes refl h.0.path.undashed h.1;
+  meant = create_part_meant eph (is_coded_in_part bytes) path bytes h.0.path.undashed h.1;
+}
 part_is (part.Set path bytes version) h = record {
-    known = refl;
-    fitting = set_fitting true version (is_coded_in_part bytes) path bytes h.0.path.undashed h.1 h.2;
-    meant = set_part_meant version (is_coded_in_part bytes) path bytes h.0.path.undashed h.1 h.2;
-  }
+  known = refl;
+  fitting = set_fitting true version (is_coded_in_part bytes) path bytes h.0.path.undashed h.1 h.2;
+  meant = set_part_meant version (is_coded_in_part bytes) path bytes h.0.path.undashed h.1 h.2;
+}
 part_is (part.Delete path version) h = record {
-    known = refl;
-    fitting = delete_fitting true version path h.0.path.undashed h.1;
-    meant = delete_part_meant version path h.0.path.undashed h.1;
-  }
+  known = refl;
+  fitting = delete_fitting true version path h.0.path.undashed h.1;
+  meant = delete_part_meant version path h.0.path.undashed h.1;
+}
 
 none_of : (test : Phrase → Bool) (good : (p : PartCommand) → IsPartPhrase p → test (phrase (part_words p)) ≡ false)
     (parts : List PartCommand) → AllByRecursion IsPart parts → list_any test (parts_phrases parts) ≡ false
@@ -143,19 +143,20 @@ length-phrases parts = length-map (map part_words parts) phrase ∙ length-map p
 
 multi : (wait : Bool) (parts : List PartCommand) → AreParts parts → IsCommandLine (and_words wait ++ codes "multi" ∷ parts_words parts) (command.Multi parts wait)
 multi wait parts h = record {
-    kind = multi_kind wait (parts_words parts);
-    unknown = ap is_unknown (multi_is wait parts h) ∙ none_of is_unknown_part (λ p f. f.known) parts h.each;
-    option = ap has_wrong_option (multi_is wait parts h) ∙ waits wait (list_any (has_bad_option true) (parts_phrases parts)) (none_of (has_bad_option true) (λ p f. f.fitting.options) parts h.each);
-    words = ap has_wrong_words (multi_is wait parts h) ∙ rw (length-phrases parts, le-leb (length parts) 16 h.few) (none_of (λ p. not (fits p)) (λ p f. ap not f.fitting.words) parts h.each);
-    version = ap has_wrong_version (multi_is wait parts h) ∙ none_of (λ p. is_bad_version p.version) (λ p f. f.fitting.version) parts h.each;
-    base64 = ap has_wrong_base64 (multi_is wait parts h) ∙ none_of has_bad_base64 (λ p f. f.fitting.base64) parts h.each;
-    weight = ap weight (multi_is wait parts h) ∙ ap (λ n. n + 1) (length-phrases parts);
-    meant = ap meant_command (multi_is wait parts h) ∙ ap (λ ps. command.Multi ps wait) (parts_meant parts h.each);
-  }
+  kind = multi_kind wait (parts_words parts);
+  unknown = ap is_unknown (multi_is wait parts h) ∙ none_of is_unknown_part (λ p f. f.known) parts h.each;
+  option = ap has_wrong_option (multi_is wait parts h) ∙ waits wait (list_any (has_bad_option true) (parts_phrases parts)) (none_of (has_bad_option true) (λ p f. f.fitting.options) parts h.each);
+  words = ap has_wrong_words (multi_is wait parts h) ∙ rw (length-phrases parts, le-leb (length parts) 16 h.few) (none_of (λ p. not (fits p)) (λ p f. ap not f.fitting.words) parts h.each);
+  version = ap has_wrong_version (multi_is wait parts h) ∙ none_of (λ p. is_bad_version p.version) (λ p f. f.fitting.version) parts h.each;
+  base64 = ap has_wrong_base64 (multi_is wait parts h) ∙ none_of has_bad_base64 (λ p f. f.fitting.base64) parts h.each;
+  weight = ap weight (multi_is wait parts h) ∙ ap (λ n. n + 1) (length-phrases parts);
+  meant = ap meant_command (multi_is wait parts h) ∙ ap (λ ps. command.Multi ps wait) (parts_meant parts h.each);
+}
   where
     multi_kind : (wait : Bool) (ws : List Word) → kind_of place.Client (and_words wait ++ codes "multi" ∷ ws) ≡ kind.Command
     multi_kind true ws = refl
     multi_kind false ws = refl
+
     waits : (wait r : Bool) → r ≡ false → ((not wait && false) || r) ≡ false
     waits true r e = e
     waits false r e = e

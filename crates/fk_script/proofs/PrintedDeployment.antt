@@ -1,6 +1,6 @@
 -- The printed form of a sound deployment means that deployment.
-use Rattle.std.proofs.Common.{◌≡◌, ℕ, zero, suc, ◌<◌, ◌≤◌, ◌+◌, ◌^◌, Bool, true, false, cond, List, [], ◌∷◌, ◌++◌, Option, Some, None, length, map, refl, sym, ◌∙◌, ap, codes, arith, add-zero, append_assoc}
-use Rattle.std.specs.Prelude.{◌&&◌, ◌||◌, not, nat_le, nat_lt}
+use Rattle.std.proofs.Common.{◌≡◌, ℕ, ◌<◌, ◌≤◌, ◌+◌, ◌^◌, Bool, true, false, List, [], ◌∷◌, ◌++◌, Some, None, length, refl, sym, ◌∙◌, ap, codes, arith, add-zero, append_assoc}
+use Rattle.std.specs.Prelude.{◌&&◌, not, nat_le, nat_lt}
 use Rattle.std.specs.Fmt.{decimal}
 use Rattle.std.specs.List.{list_all, flat_map, AllByRecursion}
 use Rattle.std.proofs.lemmas.List.{append-nil, length-append}
@@ -8,8 +8,7 @@ use Rattle.std.proofs.lemmas.Bool.{and_parts, le-ltb, lt-leb, not-true}
 use Rattle.std.proofs.lemmas.Bool.Decides.{nat_tests}
 use Rattle.fk_print.specs.ClientNames.{is_client_name, is_letter_or_digit, starts_with_letter, is_reserved}
 use Rattle.fk_print.specs.Words.{is_plain}
-use Rattle.fk_script.specs.CommandLines.{command_line, weight}
-use Rattle.fk_script.specs.Lines.{Word, lines, is_one_of, is_empty}
+use Rattle.fk_script.specs.Lines.{Word, lines, is_one_of}
 use Rattle.fk_script.specs.Printed.{line_text, and_words, command_words, turn_words, block_text, schedule_text, block_names, deployment_text}
 use Rattle.fk_script.specs.Reading.{Means, deployment_of}
 use Rattle.fk_script.specs.Reasons.{reason}
@@ -25,7 +24,7 @@ use Rattle.fk_print.specs.declared.event.Event.TheVariants as event
 use Rattle.fk_script.specs.declared.place.Kind.TheVariants as kind
 use Rattle.fk_script.specs.declared.place.Place.{Place}
 use Rattle.fk_script.specs.declared.place.Place.TheVariants as place
-use Rattle.fk_script.proofs.CleanWords.{IsWord, AreWords, plain_word, passing_are_plain}
+use Rattle.fk_script.proofs.CleanWords.{IsWord, plain_word, passing_are_plain}
 use Rattle.fk_script.proofs.CodedData.{empty_cons}
 use Rattle.fk_script.proofs.Numerals.{number_back, number_word}
 use Rattle.fk_script.proofs.Passing.{passes, passes_line, reading_is, AreSome}
@@ -37,7 +36,7 @@ use Rattle.fk_script.proofs.Sound.{IsCommand, IsBlock, IsTurn, IsSound, AreClien
 -- what is said behind the lines of the lock and the beat
 abbrev said : ℕ → ℕ → Place → List Word → List Block → ℕ → List Turn → SoFar
 said lock beat p names clients commands turns =
-  record { place = p; lock = Some lock; beat = Some beat; names = names; clients = clients; commands = commands; turns = turns }
+    record { place = p; lock = Some lock; beat = Some beat; names = names; clients = clients; commands = commands; turns = turns }
 
 abbrev block : Word → List Command → Block
 block name commands = record { name = name; commands = commands }
@@ -83,7 +82,7 @@ run_commands lock beat names bs name done (c ∷ cs) k rest h few =
     let weights : k + command_weight c + commands_weight cs ≡ k + (command_weight c + commands_weight cs) = omega arith in
     ap (λ text. passes (said lock beat place.Client names (bs ++ block name done ∷ []) k []) (lines text)) (append_assoc (line_text (command_words c)) more rest)
     ∙ passes_line (said lock beat place.Client names (bs ++ block name done ∷ []) k []) (command_words c) kind.Command (more ++ rest) (command_some c) (command_clean c h.0) l.kind
-      (command_reason (said lock beat place.Client names (bs ++ block name done ∷ []) k []) (command_words c) c l (omega arith))
+    (command_reason (said lock beat place.Client names (bs ++ block name done ∷ []) k []) (command_words c) c l (omega arith))
     ∙ ap (λ s. passes s (lines (more ++ rest))) (command_after lock beat names bs name done k (command_words c) c l)
     ∙ run_commands lock beat names bs name (done ++ c ∷ []) cs (k + command_weight c) rest h.1 light
     ∙ ap (λ n. passes (said lock beat place.Client names (bs ++ block name (done ++ c ∷ [] ++ cs) ∷ []) n []) (lines rest)) weights
@@ -153,18 +152,20 @@ run_block lock beat p names bs k b rest o named new few commands light =
 fit_front : (names : List Word) (k : ℕ) (b : Block) (blocks : List Block) → FitIn names k (b ∷ blocks)
     → (is_client_name b.name ≡ true) × (is_one_of names b.name ≡ false) × (length names < 64) × (k + commands_weight b.commands ≤ 2048)
 fit_front names k b blocks f = (
-    (and_parts (is_client_name b.name) (list_all is_client_name (block_names blocks)) f.named).0,
-    not-true (is_one_of names b.name) (and_parts (not (is_one_of names b.name)) (are_new (names ++ b.name ∷ []) (block_names blocks)) f.apart).0,
-    omega (arith, f.few), omega (arith, f.light))
+  (and_parts (is_client_name b.name) (list_all is_client_name (block_names blocks)) f.named).0,
+  not-true (is_one_of names b.name) (and_parts (not (is_one_of names b.name)) (are_new (names ++ b.name ∷ []) (block_names blocks)) f.apart).0,
+  omega (arith, f.few),
+  omega (arith, f.light),
+)
 
 fit_rest : (names : List Word) (k : ℕ) (b : Block) (blocks : List Block) → FitIn names k (b ∷ blocks) → FitIn (names ++ b.name ∷ []) (k + commands_weight b.commands) blocks
 fit_rest names k b blocks f = record {
-    named = (and_parts (is_client_name b.name) (list_all is_client_name (block_names blocks)) f.named).1;
-    apart = (and_parts (not (is_one_of names b.name)) (are_new (names ++ b.name ∷ []) (block_names blocks)) f.apart).1;
-    few = omega (arith, f.few, length-append names (b.name ∷ []));
-    commands = f.commands.1;
-    light = omega (arith, f.light);
-  }
+  named = (and_parts (is_client_name b.name) (list_all is_client_name (block_names blocks)) f.named).1;
+  apart = (and_parts (not (is_one_of names b.name)) (are_new (names ++ b.name ∷ []) (block_names blocks)) f.apart).1;
+  few = omega (arith, f.few, length-append names (b.name ∷ []));
+  commands = f.commands.1;
+  light = omega (arith, f.light);
+}
 
 run_blocks : (lock beat : ℕ) (p : Place) (names : List Word) (bs : List Block) (k : ℕ) (blocks : List Block) (rest : List ℕ) → IsOpen p → FitIn names k blocks
     → passes (said lock beat p names bs k []) (lines (flat_map block_text blocks ++ rest))
@@ -268,12 +269,12 @@ sound_means : (lock beat : ℕ) (clients : List Block) (turns : List Turn) (sche
 sound_means lock beat clients turns true s =
     reading_is [] (lines (deployment_text (deployed lock beat clients turns true))) (said lock beat place.Schedule (block_names clients) clients (0 + blocks_weight clients) turns)
     (to_schedule lock beat clients turns true s
-      ∙ run_schedule lock beat (place_behind clients place.Start) (block_names clients) clients (0 + blocks_weight clients) turns (open_behind clients place.Start tt) s.turns s.short)
+    ∙ run_schedule lock beat (place_behind clients place.Start) (block_names clients) clients (0 + blocks_weight clients) turns (open_behind clients place.Start tt) s.turns s.short)
 sound_means lock beat clients turns false s =
     reading_is [] (lines (deployment_text (deployed lock beat clients turns false))) (said lock beat (place_behind clients place.Start) (block_names clients) clients (0 + blocks_weight clients) [])
     (to_schedule lock beat clients turns false s)
     ∙ ap Means (open_meant lock beat (place_behind clients place.Start) (block_names clients) clients (0 + blocks_weight clients) (open_behind clients place.Start tt)
-      ∙ ap (λ ts. deployed lock beat clients ts false) (sym (s.idle refl)))
+    ∙ ap (λ ts. deployed lock beat clients ts false) (sym (s.idle refl)))
 
 pub sound_reads_back : (d : Deployment) → IsSound d → deployment_of (deployment_text d) ≡ Means d
 sound_reads_back d s = sound_means d.config.lock d.config.beat d.clients d.turns d.scheduled s

@@ -1,7 +1,6 @@
 -- How printed lines are put together.
-use Rattle.std.proofs.Common.{◌≡◌, ℕ, Bool, true, false, refl, List, [], ◌∷◌, ◌++◌, codes, append_assoc}
-use Rattle.std.proofs.lemmas.List.{append-nil}
-use Rattle.fk_print.specs.Words.{Text, marked, spaced}
+use Rattle.std.proofs.Common.{◌≡◌, Bool, true, false, refl, List, ◌∷◌, ◌++◌}
+use Rattle.fk_print.specs.Words.{Text, marked}
 use Rattle.fk_script.specs.Printed.{and_words, beginning, line_text}
 
 -- the beginning of a line and the rest of it

@@ -1,9 +1,9 @@
 -- The words of a printed command, read as a phrase.
-use Rattle.std.proofs.Common.{◌≡◌, ℕ, ℤ, pos, negsuc, Bool, true, false, cond, List, [], ◌∷◌, ◌++◌, Option, Some, None, refl, sym, ◌∙◌, ap, codes}
-use Rattle.std.specs.Prelude.{◌&&◌, ◌||◌, not}
+use Rattle.std.proofs.Common.{◌≡◌, ℕ, ℤ, pos, negsuc, Bool, true, false, List, [], ◌∷◌, ◌++◌, Option, Some, None, refl, sym, ◌∙◌, ap, codes}
+use Rattle.std.specs.Prelude.{◌&&◌}
 use Rattle.std.specs.Fmt.{decimal}
-use Rattle.fk_script.specs.Lines.{Word, is, is_one_of, starts_with}
-use Rattle.fk_script.specs.Phrases.{Phrase, phrase, has_bad_option, fits, is_bad_version, has_bad_base64, is_bad_data, data_bytes, data_word, bytes, expected, command_of, part_of, is_unknown_part}
+use Rattle.fk_script.specs.Lines.{Word, is_one_of, starts_with}
+use Rattle.fk_script.specs.Phrases.{Phrase, phrase, has_bad_option, fits, is_bad_version, has_bad_base64, is_bad_data, data_bytes, data_word, bytes, expected, command_of, part_of}
 use Rattle.fk_script.specs.Printed.{word_if, version_words, data_words, create_words, set_words, delete_words, read_words}
 use Rattle.fk_script.specs.declared.command.Command.TheVariants as command
 use Rattle.fk_script.specs.declared.command.PartCommand.TheVariants as part
@@ -80,11 +80,11 @@ create_base64 seq eph coded path bytes d = ap (λ b. b && is_bad_data (data_word
 pub create_fitting : (in_multi seq eph coded : Bool) (path : Word) (bytes : List ℕ) → (in_multi && seq) ≡ false → starts_with 45 path ≡ false → IsData bytes
     → IsFitting in_multi (phrase (create_words seq eph coded path bytes))
 create_fitting in_multi seq eph coded path bytes m h d = rw (create_is seq eph coded path (data_words coded bytes) h) (record {
-    options = create_allowed in_multi seq eph coded path (data_words coded bytes) m;
-    words = create_fits seq eph coded path bytes;
-    version = refl;
-    base64 = create_base64 seq eph coded path bytes d;
-  })
+  options = create_allowed in_multi seq eph coded path (data_words coded bytes) m;
+  words = create_fits seq eph coded path bytes;
+  version = refl;
+  base64 = create_base64 seq eph coded path bytes d;
+})
 
 pub create_meant : (wait seq eph coded : Bool) (path : Word) (bytes : List ℕ) → starts_with 45 path ≡ false → IsData bytes
     → command_of wait (phrase (create_words seq eph coded path bytes)) ≡ command.Create path bytes seq eph wait
@@ -150,11 +150,11 @@ set_fits v coded path (b ∷ bs) = refl
 pub set_fitting : (in_multi : Bool) (v : ℤ) (coded : Bool) (path : Word) (bytes : List ℕ) → starts_with 45 path ≡ false → IsData bytes → IsVersion v
     → IsFitting in_multi (phrase (set_words v coded path bytes))
 set_fitting in_multi v coded path bytes h d n = rw (set_is v coded path (data_words coded bytes) h) (record {
-    options = set_allowed in_multi v coded path (data_words coded bytes);
-    words = set_fits v coded path bytes;
-    version = version_good v n;
-    base64 = ap (λ b. b && is_bad_data (data_word (path ∷ data_words coded bytes))) (set_has v coded) ∙ data_good coded path bytes d;
-  })
+  options = set_allowed in_multi v coded path (data_words coded bytes);
+  words = set_fits v coded path bytes;
+  version = version_good v n;
+  base64 = ap (λ b. b && is_bad_data (data_word (path ∷ data_words coded bytes))) (set_has v coded) ∙ data_good coded path bytes d;
+})
 
 pub set_meant : (wait : Bool) (v : ℤ) (coded : Bool) (path : Word) (bytes : List ℕ) → starts_with 45 path ≡ false → IsData bytes → IsVersion v
     → command_of wait (phrase (set_words v coded path bytes)) ≡ command.Set path bytes v wait
@@ -183,11 +183,11 @@ delete_allowed false (negsuc n) path = (refl, refl)
 
 pub delete_fitting : (in_multi : Bool) (v : ℤ) (path : Word) → starts_with 45 path ≡ false → IsVersion v → IsFitting in_multi (phrase (delete_words v path))
 delete_fitting in_multi v path h n = rw (delete_is v path h) (record {
-    options = (delete_allowed in_multi v path).0;
-    words = refl;
-    version = version_good v n;
-    base64 = (delete_allowed in_multi v path).1;
-  })
+  options = (delete_allowed in_multi v path).0;
+  words = refl;
+  version = version_good v n;
+  base64 = (delete_allowed in_multi v path).1;
+})
 
 pub delete_meant : (wait : Bool) (v : ℤ) (path : Word) → starts_with 45 path ≡ false → IsVersion v
     → command_of wait (phrase (delete_words v path)) ≡ command.Delete path v wait

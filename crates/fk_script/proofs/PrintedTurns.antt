@@ -1,6 +1,5 @@
 -- The line of a printed turn says the turn.
-use Rattle.std.proofs.Common.{◌≡◌, ℕ, ◌<◌, ◌≤◌, ◌^◌, Bool, true, false, List, [], ◌∷◌, ◌++◌, Some, None, refl, sym, ◌∙◌, ap, subst, codes, arith}
-use Rattle.std.specs.Prelude.{◌&&◌, ◌||◌, not}
+use Rattle.std.proofs.Common.{◌≡◌, ℕ, ◌<◌, ◌≤◌, ◌^◌, true, false, List, [], ◌∷◌, refl, sym, subst, codes, arith}
 use Rattle.std.specs.Fmt.{decimal}
 use Rattle.fk_print.specs.Words.{client}
 use Rattle.fk_print.specs.declared.event.Event.TheVariants as event
@@ -15,7 +14,7 @@ use Rattle.fk_script.specs.declared.deployment.Turn.{Turn}
 use Rattle.fk_script.specs.declared.deployment.Turn.TheVariants as turn
 use Rattle.fk_script.proofs.CleanWords.{IsWord, AreWords, plain_word}
 use Rattle.fk_script.proofs.Numerals.{number_back, number_word as clean_number}
-use Rattle.fk_script.proofs.Sound.{IsSession, IsTurn}
+use Rattle.fk_script.proofs.Sound.{IsTurn}
 
 -- the words of a turn, one by one
 abbrev pub turn_line : List Word → Turn → List Word
@@ -57,34 +56,50 @@ pub record IsTurnLine (names ws : List Word) (t : Turn) : Type 0 where
 client_line : (names : List Word) (w : Word) (c : ℕ) → IsWord w → is_one_of names w ≡ true → session names w ≡ c
     → IsTurnLine names (codes "client" ∷ w ∷ []) (turn.One (event.Client c))
 client_line names w c clean known back = record {
-    clean = (plain_word (codes "client") refl refl, (clean, tt)); kind = refl; known = refl; words = refl; number = refl;
-    client = rw known refl;
-    meant = rw back refl;
-  }
+  clean = (plain_word (codes "client") refl refl, (clean, tt));
+  kind = refl;
+  known = refl;
+  words = refl;
+  number = refl;
+  client = rw known refl;
+  meant = rw back refl;
+}
 
 deliver_line : (names : List Word) (w : Word) (c : ℕ) → IsWord w → is_one_of names w ≡ true → session names w ≡ c → is w (codes "leader") ≡ false → is w (codes "watch") ≡ false
     → IsTurnLine names (codes "deliver" ∷ w ∷ []) (turn.One (event.Deliver c))
 deliver_line names w c clean known back l m = record {
-    clean = (plain_word (codes "deliver") refl refl, (clean, tt)); kind = refl; known = refl; words = refl; number = refl;
-    client = rw (l, m, known) refl;
-    meant = rw (l, m, back) refl;
-  }
+  clean = (plain_word (codes "deliver") refl refl, (clean, tt));
+  kind = refl;
+  known = refl;
+  words = refl;
+  number = refl;
+  client = rw (l, m, known) refl;
+  meant = rw (l, m, back) refl;
+}
 
 beat_line : (names : List Word) (w : Word) (c : ℕ) → IsWord w → is_one_of names w ≡ true → session names w ≡ c
     → IsTurnLine names (codes "beat" ∷ w ∷ []) (turn.One (event.Beat c))
 beat_line names w c clean known back = record {
-    clean = (plain_word (codes "beat") refl refl, (clean, tt)); kind = refl; known = refl; words = refl; number = refl;
-    client = rw known refl;
-    meant = rw back refl;
-  }
+  clean = (plain_word (codes "beat") refl refl, (clean, tt));
+  kind = refl;
+  known = refl;
+  words = refl;
+  number = refl;
+  client = rw known refl;
+  meant = rw back refl;
+}
 
 fail_client_line : (names : List Word) (w : Word) (c : ℕ) → IsWord w → is_one_of names w ≡ true → session names w ≡ c
     → IsTurnLine names (codes "fail" ∷ codes "client" ∷ w ∷ []) (turn.One (event.FailClient c))
 fail_client_line names w c clean known back = record {
-    clean = (plain_word (codes "fail") refl refl, (plain_word (codes "client") refl refl, (clean, tt))); kind = refl; known = refl; words = refl; number = refl;
-    client = rw known refl;
-    meant = rw back refl;
-  }
+  clean = (plain_word (codes "fail") refl refl, (plain_word (codes "client") refl refl, (clean, tt)));
+  kind = refl;
+  known = refl;
+  words = refl;
+  number = refl;
+  client = rw known refl;
+  meant = rw back refl;
+}
 
 small : (n : ℕ) → n ≤ most_event → n < 2 ^ 64
 small n h = omega arith
@@ -101,25 +116,41 @@ turn_reads names (turn.One event.Watch) h = record { clean = (plain_word (codes 
 turn_reads names (turn.One (event.Beat c)) h =
     subst (λ w. IsTurnLine names (codes "beat" ∷ w ∷ []) (turn.One (event.Beat c))) (sym h.named) (beat_line names h.name c h.word h.known h.back)
 turn_reads names (turn.One (event.Step n)) h = record {
-    clean = (plain_word (codes "step") refl refl, (clean_number n (small n h), tt)); kind = refl; known = refl; words = refl; client = refl;
-    number = rw (number_back most_event n (small n h) h) refl;
-    meant = rw (number_back most_event n (small n h) h) refl;
-  }
+  clean = (plain_word (codes "step") refl refl, (clean_number n (small n h), tt));
+  kind = refl;
+  known = refl;
+  words = refl;
+  client = refl;
+  number = rw (number_back most_event n (small n h) h) refl;
+  meant = rw (number_back most_event n (small n h) h) refl;
+}
 turn_reads names (turn.One (event.Crash n)) h = record {
-    clean = (plain_word (codes "crash") refl refl, (clean_number n (small n h), tt)); kind = refl; known = refl; words = refl; client = refl;
-    number = rw (number_back most_event n (small n h) h) refl;
-    meant = rw (number_back most_event n (small n h) h) refl;
-  }
+  clean = (plain_word (codes "crash") refl refl, (clean_number n (small n h), tt));
+  kind = refl;
+  known = refl;
+  words = refl;
+  client = refl;
+  number = rw (number_back most_event n (small n h) h) refl;
+  meant = rw (number_back most_event n (small n h) h) refl;
+}
 turn_reads names (turn.One (event.Fail n)) h = record {
-    clean = (plain_word (codes "fail") refl refl, (clean_number n (small n h), tt)); kind = refl; known = refl; words = refl; client = refl;
-    number = rw (number_back most_event n (small n h) h) refl;
-    meant = rw (number_back most_event n (small n h) h) refl;
-  }
+  clean = (plain_word (codes "fail") refl refl, (clean_number n (small n h), tt));
+  kind = refl;
+  known = refl;
+  words = refl;
+  client = refl;
+  number = rw (number_back most_event n (small n h) h) refl;
+  meant = rw (number_back most_event n (small n h) h) refl;
+}
 turn_reads names (turn.One (event.FailClient c)) h =
     subst (λ w. IsTurnLine names (codes "fail" ∷ codes "client" ∷ w ∷ []) (turn.One (event.FailClient c))) (sym h.named) (fail_client_line names h.name c h.word h.known h.back)
 turn_reads names (turn.One (event.Clock m)) h = record {
-    clean = (plain_word (codes "clock") refl refl, (clean_number m (small m h), tt)); kind = refl; known = refl; words = refl; client = refl;
-    number = rw (number_back most_event m (small m h) h) refl;
-    meant = rw (number_back most_event m (small m h) h) refl;
-  }
+  clean = (plain_word (codes "clock") refl refl, (clean_number m (small m h), tt));
+  kind = refl;
+  known = refl;
+  words = refl;
+  client = refl;
+  number = rw (number_back most_event m (small m h) h) refl;
+  meant = rw (number_back most_event m (small m h) h) refl;
+}
 turn_reads names turn.Drain h = record { clean = (plain_word (codes "drain") refl refl, tt); kind = refl; known = refl; words = refl; number = refl; client = refl; meant = refl }

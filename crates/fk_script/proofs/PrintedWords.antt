@@ -1,7 +1,6 @@
 -- The words of printed commands are words.
-use Rattle.std.proofs.Common.{◌≡◌, ℕ, ℤ, pos, negsuc, ◌<◌, ◌^◌, Bool, true, false, cond, List, [], ◌∷◌, ◌++◌, refl, sym, ◌∙◌, ap, codes, arith}
-use Rattle.std.specs.Prelude.{◌&&◌, ◌||◌, not}
-use Rattle.std.specs.Fmt.{decimal}
+use Rattle.std.proofs.Common.{◌≡◌, ℕ, ℤ, pos, negsuc, ◌<◌, ◌^◌, Bool, true, false, List, [], ◌∷◌, ◌++◌, refl, codes, arith}
+use Rattle.std.specs.Prelude.{not}
 use Rattle.std.specs.List.{list_all, flat_map, AllByRecursion}
 use Rattle.std.specs.Str.{bytes_eq}
 use Rattle.std.proofs.lemmas.Bool.{and_parts, and_from, or_parts, not-false}
@@ -10,7 +9,6 @@ use Rattle.base64.specs.GeneralPurpose.{encode_of}
 use Rattle.fk_print.specs.Words.{is_plain}
 use Rattle.fk_script.specs.Lines.{Word, is}
 use Rattle.fk_script.specs.Printed.{word_if, version_words, data_words, create_words, set_words, delete_words, read_words, is_coded, is_coded_in_part, part_words, parts_words, and_words, command_words}
-use Rattle.fk_script.specs.Values.{most_version}
 use Rattle.fk_script.specs.declared.command.Command.{Command}
 use Rattle.fk_script.specs.declared.command.Command.TheVariants as command
 use Rattle.fk_script.specs.declared.command.PartCommand.{PartCommand}
@@ -18,7 +16,7 @@ use Rattle.fk_script.specs.declared.command.PartCommand.TheVariants as part
 use Rattle.fk_script.proofs.CleanWords.{IsWord, AreWords, AreWords-append, plain_word}
 use Rattle.fk_script.proofs.CodedData.{coded_word, empty_cons, encoded_symbols, no_semicolon}
 use Rattle.fk_script.proofs.Numerals.{number_word, number_apart}
-use Rattle.fk_script.proofs.Sound.{IsPath, IsPartPath, IsVersion, IsPart, AreParts, IsCommand}
+use Rattle.fk_script.proofs.Sound.{IsVersion, IsPart, IsCommand}
 
 word_if_clean : (b : Bool) (w : Word) → IsWord w → AreWords (word_if b w)
 word_if_clean true w h = (h, tt)
@@ -42,19 +40,23 @@ plain_in_part bytes h = plain_uncoded bytes (or_parts (is_coded bytes) (bytes_eq
 
 create_clean : (seq eph coded : Bool) (path : Word) (bytes : List ℕ) → IsWord path → (coded ≡ false → list_all is_plain bytes ≡ true)
     → AreWords (create_words seq eph coded path bytes)
-create_clean seq eph coded path bytes p d = (plain_word (codes "create") refl refl,
-    AreWords-append (word_if seq (codes "-s") ++ word_if eph (codes "-e") ++ word_if coded (codes "-b")) (path ∷ data_words coded bytes)
-    (AreWords-append (word_if seq (codes "-s") ++ word_if eph (codes "-e")) (word_if coded (codes "-b"))
+create_clean seq eph coded path bytes p d = (
+  plain_word (codes "create") refl refl,
+  AreWords-append (word_if seq (codes "-s") ++ word_if eph (codes "-e") ++ word_if coded (codes "-b")) (path ∷ data_words coded bytes)
+      (AreWords-append (word_if seq (codes "-s") ++ word_if eph (codes "-e")) (word_if coded (codes "-b"))
       (AreWords-append (word_if seq (codes "-s")) (word_if eph (codes "-e")) (word_if_clean seq (codes "-s") (plain_word (codes "-s") refl refl)) (word_if_clean eph (codes "-e") (plain_word (codes "-e") refl refl)))
       (word_if_clean coded (codes "-b") (plain_word (codes "-b") refl refl)))
-    (p, data_clean coded bytes d))
+      (p, data_clean coded bytes d),
+)
 
 set_clean : (v : ℤ) (coded : Bool) (path : Word) (bytes : List ℕ) → IsVersion v → IsWord path → (coded ≡ false → list_all is_plain bytes ≡ true)
     → AreWords (set_words v coded path bytes)
-set_clean v coded path bytes n p d = (plain_word (codes "set") refl refl,
-    AreWords-append (version_words v ++ word_if coded (codes "-b")) (path ∷ data_words coded bytes)
-    (AreWords-append (version_words v) (word_if coded (codes "-b")) (version_clean v n) (word_if_clean coded (codes "-b") (plain_word (codes "-b") refl refl)))
-    (p, data_clean coded bytes d))
+set_clean v coded path bytes n p d = (
+  plain_word (codes "set") refl refl,
+  AreWords-append (version_words v ++ word_if coded (codes "-b")) (path ∷ data_words coded bytes)
+      (AreWords-append (version_words v) (word_if coded (codes "-b")) (version_clean v n) (word_if_clean coded (codes "-b") (plain_word (codes "-b") refl refl)))
+      (p, data_clean coded bytes d),
+)
 
 delete_clean : (v : ℤ) (path : Word) → IsVersion v → IsWord path → AreWords (delete_words v path)
 delete_clean v path n p = (plain_word (codes "delete") refl refl, AreWords-append (version_words v) (path ∷ []) (version_clean v n) (p, tt))

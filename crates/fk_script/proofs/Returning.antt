@@ -1,5 +1,5 @@
 -- What bytes mean is sound, and what is printed of a sound deployment reads back.
-use Rattle.std.proofs.Common.{◌≡◌, ℕ, List, [], subst, sym, ◌∙◌, ap}
+use Rattle.std.proofs.Common.{◌≡◌, ℕ, List, [], subst, ◌∙◌, ap}
 use Rattle.fk_script.specs.Generate.{generated}
 use Rattle.fk_script.specs.Lines.{lines}
 use Rattle.fk_script.specs.PrintLaws.{GeneratedIsMeant, IsMeant, PrintedReadsBack}

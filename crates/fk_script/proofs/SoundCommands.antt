@@ -1,14 +1,14 @@
 -- The command that a line says is sound where the line doesn't offend.
-use Rattle.std.proofs.Common.{◌≡◌, ℕ, ℤ, pos, negsuc, zero, suc, ◌<◌, ◌≤◌, ◌+◌, Bool, true, false, cond, List, [], ◌∷◌, ◌++◌, Option, Some, None, Result, Ok, Err, length, map, refl, sym, ◌∙◌, ap, subst, codes, arith, lit<}
-use Rattle.std.specs.Prelude.{◌==◌, ◌&&◌, ◌||◌, not, nat_le, unwrap_or, IfSome}
-use Rattle.std.specs.List.{list_all, list_any, slice_split, onto_first, AllByRecursion}
+use Rattle.std.proofs.Common.{◌≡◌, ℕ, pos, negsuc, ◌≤◌, ◌+◌, Bool, true, false, cond, List, [], ◌∷◌, Option, Some, None, Result, Ok, Err, length, map, refl, sym, ◌∙◌, ap, subst, codes, arith, lit<}
+use Rattle.std.specs.Prelude.{◌&&◌, ◌||◌, not, nat_le, unwrap_or, IfSome}
+use Rattle.std.specs.List.{list_any, slice_split, onto_first, AllByRecursion}
 use Rattle.std.specs.Option.{option_map}
 use Rattle.std.specs.Result.{result_ok}
 use Rattle.std.specs.Str.Parse.{digits_value}
 use Rattle.std.proofs.lemmas.List.{length-map}
 use Rattle.std.proofs.lemmas.List.Splits.{length-slice_split}
 use Rattle.std.proofs.lemmas.Slice.Eq.{bytes_eq-Decides}
-use Rattle.std.proofs.lemmas.Bool.{and_parts, or_parts, leb-true, not-false}
+use Rattle.std.proofs.lemmas.Bool.{or_parts, leb-true, not-false}
 use Rattle.base64.specs.Engines.{standard}
 use Rattle.base64.specs.GeneralPurpose.{IsBytes, decode_of, encode_of}
 use Rattle.base64.specs.declared.decode.DecodeError.{DecodeError}
@@ -18,13 +18,11 @@ use Rattle.fk_script.specs.Lines.{Word, is, is_one_of, starts_with, first}
 use Rattle.fk_script.specs.Phrases.{Phrase, phrase, is_option, from_path, fits, is_unknown_part, data_word, data_bytes, bytes, expected, command_of, part_of, has_option}
 use Rattle.fk_script.specs.Values.{decoded, is_decimal, most_version}
 use Rattle.fk_script.specs.declared.command.Command.{Command}
-use Rattle.fk_script.specs.declared.command.Command.TheVariants as command
 use Rattle.fk_script.specs.declared.command.PartCommand.{PartCommand}
-use Rattle.fk_script.specs.declared.command.PartCommand.TheVariants as part
 use Rattle.fk_script.proofs.CleanWords.{IsWord, AreWords}
 use Rattle.fk_script.proofs.CodedData.{decoded_back}
 use Rattle.fk_script.proofs.TextWords.{utf8_bytes}
-use Rattle.fk_script.proofs.Sound.{IsPath, IsPartPath, IsData, IsVersion, IsPart, AreParts, IsCommand, command_weight}
+use Rattle.fk_script.proofs.Sound.{IsPath, IsPartPath, IsData, IsVersion, IsPart, IsCommand, command_weight}
 
 -- the words from the path on, which doesn't start with `-`
 abbrev IsRestOf : (Word → Type 0) → List Word → Type 0
@@ -106,10 +104,10 @@ lone_is wait name options version (path ∷ rest) r f =
     let v : IsVersion (expected version) = version_is version in
     choose (is name (codes "create")) _ _ ((p, d), refl)
     (choose (is name (codes "set")) _ _ ((p, d, v), refl)
-      (choose (is name (codes "delete")) _ _ ((p, v), refl)
-        (choose (is name (codes "get")) _ _ (p, refl)
-          (choose (is name (codes "stat")) _ _ (p, refl)
-            (choose (is name (codes "ls")) _ _ (p, refl) (tt, refl))))))
+    (choose (is name (codes "delete")) _ _ ((p, v), refl)
+    (choose (is name (codes "get")) _ _ (p, refl)
+    (choose (is name (codes "stat")) _ _ (p, refl)
+    (choose (is name (codes "ls")) _ _ (p, refl) (tt, refl))))))
 
 -- the parts of a multi
 record IsPartWord (w : Word) : Type 0 where
@@ -156,9 +154,10 @@ each_part : (pieces : List (List Word)) → AllByRecursion (AllByRecursion IsPar
 each_part [] h u f = tt
 each_part (ws ∷ pieces) h u f =
     let known = or_parts (is_unknown_part (phrase ws)) (list_any is_unknown_part (map phrase pieces)) u in
-    let fitting = or_parts (not (fits (phrase ws))) (list_any (λ p. not (fits p)) (map phrase pieces)) f in
-    (part_is (phrase ws).name (phrase ws).options (phrase ws).version (phrase ws).rest (phrase_rest IsPartWord ws h.0) (not-false (fits (phrase ws)) fitting.0) known.0,
-      each_part pieces h.1 known.1 fitting.1)
+    let fitting = or_parts (not (fits (phrase ws))) (list_any (λ p. not (fits p)) (map phrase pieces)) f in (
+      part_is (phrase ws).name (phrase ws).options (phrase ws).version (phrase ws).rest (phrase_rest IsPartWord ws h.0) (not-false (fits (phrase ws)) fitting.0) known.0,
+      each_part pieces h.1 known.1 fitting.1,
+    )
 
 -- what is so of the command of a line
 abbrev IsSaid : CommandLine → Type 0
@@ -174,12 +173,14 @@ multi_is : (wait : Bool) (ws : List Word) → AreWords ws
 multi_is wait ws h u f =
     let pieces = slice_split is_semicolon ws in
     let both = or_parts (not (nat_le (length (map phrase pieces)) 16)) (list_any (λ p. not (fits p)) (map phrase pieces)) f in
-    let few : length (map phrase pieces) ≤ 16 = leb-true (length (map phrase pieces)) 16 (not-false (nat_le (length (map phrase pieces)) 16) both.0) in
-    (record {
+    let few : length (map phrase pieces) ≤ 16 = leb-true (length (map phrase pieces)) 16 (not-false (nat_le (length (map phrase pieces)) 16) both.0) in (
+      record {
         each = each_part pieces (pieces_are ws h) u both.1;
         some = omega (arith, length-parts pieces, length-map pieces phrase, length-slice_split is_semicolon ws);
         few = omega (arith, length-parts pieces);
-      }, ap (λ n. n + 1) (length-parts pieces))
+      },
+      ap (λ n. n + 1) (length-parts pieces),
+    )
 
 step_line : (t : Bool) (wait : Bool) (w : Word) (ws : List Word) → is w (codes "multi") ≡ t → AreWords (w ∷ ws)
     → is_unknown (record { wait = wait; name = w; phrases = cond t (map phrase (slice_split is_semicolon ws)) (phrase (w ∷ ws) ∷ []) }) ≡ false
@@ -189,8 +190,8 @@ step_line true wait w ws e h u f =
     let name : w ≡ codes "multi" = (bytes_eq-Decides w (codes "multi")).0 e in
     subst (λ n. IsSaid (record { wait = wait; name = n; phrases = map phrase (slice_split is_semicolon ws) })) (sym name)
     (multi_is wait ws h.1
-      (subst (λ n. is_unknown (record { wait = wait; name = n; phrases = map phrase (slice_split is_semicolon ws) }) ≡ false) name u)
-      (subst (λ n. has_wrong_words (record { wait = wait; name = n; phrases = map phrase (slice_split is_semicolon ws) }) ≡ false) name f))
+    (subst (λ n. is_unknown (record { wait = wait; name = n; phrases = map phrase (slice_split is_semicolon ws) }) ≡ false) name u)
+    (subst (λ n. has_wrong_words (record { wait = wait; name = n; phrases = map phrase (slice_split is_semicolon ws) }) ≡ false) name f))
 step_line false wait w ws e h u f =
     let ph = phrase (w ∷ ws) in
     let fitting : (not (fits ph) || false) ≡ false = rw e at f in

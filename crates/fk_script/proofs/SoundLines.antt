@@ -1,19 +1,19 @@
 -- What lines say is sound where none offends.
-use Rattle.std.proofs.Common.{◌≡◌, ◌≢◌, ℕ, zero, suc, ◌<◌, ◌≤◌, ◌+◌, Bool, true, false, cond, List, [], ◌∷◌, ◌++◌, Option, Some, None, length, map, refl, sym, ◌∙◌, ap, subst, codes, arith, append_assoc}
-use Rattle.std.specs.Prelude.{◌==◌, ◌&&◌, ◌||◌, not, nat_le, nat_lt, unwrap_or, is_none, IfSome}
+use Rattle.std.proofs.Common.{◌≡◌, ◌≢◌, ℕ, suc, ◌<◌, ◌≤◌, ◌+◌, Bool, true, false, cond, List, [], ◌∷◌, ◌++◌, Option, Some, None, length, refl, sym, ◌∙◌, ap, subst, codes, arith, append_assoc}
+use Rattle.std.specs.Prelude.{◌==◌, ◌&&◌, not, nat_le, unwrap_or, IfSome}
 use Rattle.std.specs.List.{list_all, AllByRecursion}
 use Rattle.std.specs.Str.{is_utf8}
 use Rattle.std.specs.Str.Parse.{digits_value}
 use Rattle.std.proofs.lemmas.List.{append-nil, length-append, map-append}
-use Rattle.std.proofs.lemmas.Bool.{and_parts, and_from, or_parts, not-false, leb-false, ltb-false, leb-true}
+use Rattle.std.proofs.lemmas.Bool.{and_parts, and_from, not-false, leb-false, ltb-false, leb-true}
 use Rattle.std.proofs.lemmas.Str.{IsUtf8-from_is_utf8}
 use Rattle.fk_print.specs.ClientNames.{is_client_name}
-use Rattle.fk_script.specs.CommandLines.{command_line, has_wrong_words, is_unknown, meant_command, weight}
-use Rattle.fk_script.specs.EventLines.{client_word, event_fits, is_no_client, turn_of}
+use Rattle.fk_script.specs.CommandLines.{command_line, meant_command, weight}
+use Rattle.fk_script.specs.EventLines.{event_fits, turn_of}
 use Rattle.fk_script.specs.Lines.{Word, Line, is, is_one_of, lines, onto_line, second, starts_with, words}
 use Rattle.fk_script.specs.Printed.{block_names}
 use Rattle.fk_script.specs.Reasons.{offence, reason, is_unknown_line, is_unknown_command, is_unknown_event, is_bad_option, is_bad_words, is_bad_count, is_bad_name, is_repeated_name, is_unknown_client, is_bad_base64, is_too_many}
-use Rattle.fk_script.specs.SoFar.{SoFar, after, is_schedule, kind_at, kind_of, meant, nothing, with_command}
+use Rattle.fk_script.specs.SoFar.{SoFar, after, is_schedule, kind_of, meant, nothing, with_command}
 use Rattle.fk_script.specs.Values.{is_decimal, most_time, number}
 use Rattle.fk_script.specs.declared.command.Command.{Command}
 use Rattle.fk_script.specs.declared.deployment.Block.{Block}
@@ -298,19 +298,19 @@ time_or (Some m) n g h = h
 
 sound_from : (s : SoFar) → IsGood s → IsSound (meant s)
 sound_from s g = record {
-    lock = time_or s.lock 10 (omega arith) g.lock;
-    beat = time_or s.beat 30 (omega arith) g.beat;
-    clients = record {
-      named = subst (λ ns. list_all is_client_name ns ≡ true) g.names g.named;
-      apart = subst (λ ns. are_new [] ns ≡ true) g.names g.apart;
-      few = subst (λ (ns : List Word). length ns ≤ 64) g.names g.few;
-      commands = g.blocks;
-      light = subst (λ (n : ℕ). n ≤ 2048) g.weight g.light;
-    };
-    turns = subst (λ ns. AllByRecursion (IsTurn ns) s.turns) g.names g.turns;
-    short = g.short;
-    idle = g.idle;
-  }
+  lock = time_or s.lock 10 (omega arith) g.lock;
+  beat = time_or s.beat 30 (omega arith) g.beat;
+  clients = record {
+    named = subst (λ ns. list_all is_client_name ns ≡ true) g.names g.named;
+    apart = subst (λ ns. are_new [] ns ≡ true) g.names g.apart;
+    few = subst (λ (ns : List Word). length ns ≤ 64) g.names g.few;
+    commands = g.blocks;
+    light = subst (λ (n : ℕ). n ≤ 2048) g.weight g.light;
+  };
+  turns = subst (λ ns. AllByRecursion (IsTurn ns) s.turns) g.names g.turns;
+  short = g.short;
+  idle = g.idle;
+}
 
 -- what lines say that don't offend is sound
 pub read_is_sound : (bs : List ℕ) (t : SoFar) → passes nothing (lines bs) ≡ Some t → IsSound (meant t)

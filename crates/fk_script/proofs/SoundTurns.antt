@@ -1,16 +1,15 @@
 -- The turn that a line says is sound where the line doesn't offend.
-use Rattle.std.proofs.Common.{◌≡◌, ℕ, zero, suc, ◌<◌, ◌≤◌, ◌+◌, ◌-◌, Bool, true, false, cond, List, [], ◌∷◌, ◌++◌, Option, Some, None, length, get_or, refl, sym, ◌∙◌, ap, subst, codes, arith, add-one}
-use Rattle.std.specs.Prelude.{◌==◌, ◌&&◌, ◌||◌, not, nat_le, unwrap_or}
+use Rattle.std.proofs.Common.{◌≡◌, ℕ, zero, suc, ◌<◌, ◌≤◌, ◌+◌, ◌-◌, Bool, true, false, cond, List, [], ◌∷◌, Some, None, get_or, refl, sym, ◌∙◌, ap, subst, codes, arith, add-one}
+use Rattle.std.specs.Prelude.{◌==◌, ◌&&◌, ◌||◌, nat_le, unwrap_or}
 use Rattle.std.specs.Str.Parse.{digits_value}
 use Rattle.std.proofs.lemmas.Slice.Eq.{bytes_eq-Decides}
-use Rattle.std.proofs.lemmas.Bool.{and_parts, or_parts, leb-true, not-false, ne_eqb}
+use Rattle.std.proofs.lemmas.Bool.{leb-true, not-false, ne_eqb}
 use Rattle.fk_print.specs.Words.{client}
 use Rattle.fk_print.specs.declared.event.Event.{Event}
 use Rattle.fk_print.specs.declared.event.Event.TheVariants as event
 use Rattle.fk_script.specs.EventLines.{delivery_of, event_of, event_fits, client_word, is_no_client, number_of, session, turn_of}
-use Rattle.fk_script.specs.Lines.{Word, is, is_one_of, first}
+use Rattle.fk_script.specs.Lines.{Word, is, is_one_of}
 use Rattle.fk_script.specs.Values.{is_decimal, most_event}
-use Rattle.fk_script.specs.declared.deployment.Turn.{Turn}
 use Rattle.fk_script.specs.declared.deployment.Turn.TheVariants as turn
 use Rattle.fk_script.proofs.CleanWords.{IsWord, AreWords}
 use Rattle.fk_script.proofs.Sound.{IsSession, IsTurn}
@@ -59,27 +58,27 @@ delivery_is : (names : List Word) (v : Word) → IsWord v → is_no_client names
 delivery_is names v clean k =
     choose names (is v (codes "leader")) event.Leader _ (λ _. tt)
     (λ l. choose names (is v (codes "watch")) event.Watch _ (λ _. tt)
-      (λ m.
-        let known : is_no_client names (Some v) ≡ false = rw (l, m) at k in
-        let one = known_client names v known in
-        let named = sym (session_names names v one).0 in
-        (session_is names v clean one, subst (λ w. is w (codes "leader") ≡ false) named l, subst (λ w. is w (codes "watch") ≡ false) named m)))
+    (λ m.
+    let known : is_no_client names (Some v) ≡ false = rw (l, m) at k in
+    let one = known_client names v known in
+    let named = sym (session_names names v one).0 in
+    (session_is names v clean one, subst (λ w. is w (codes "leader") ≡ false) named l, subst (λ w. is w (codes "watch") ≡ false) named m)))
 
 event_is : (names : List Word) (w v : Word) → IsWord v → is_no_client names (client_word (w ∷ v ∷ [])) ≡ false → IsTurn names (turn.One (event_of names w v))
 event_is names w v clean k =
     choose names (is w (codes "client")) _ _
     (λ e.
-      let known = subst (λ n. is_no_client names (client_word (n ∷ v ∷ [])) ≡ false) ((bytes_eq-Decides w (codes "client")).0 e) k in
-      session_is names v clean (known_client names v known))
+    let known = subst (λ n. is_no_client names (client_word (n ∷ v ∷ [])) ≡ false) ((bytes_eq-Decides w (codes "client")).0 e) k in
+    session_is names v clean (known_client names v known))
     (λ _. choose names (is w (codes "deliver")) _ _
-      (λ e. delivery_is names v clean (subst (λ n. is_no_client names (client_word (n ∷ v ∷ [])) ≡ false) ((bytes_eq-Decides w (codes "deliver")).0 e) k))
-      (λ _. choose names (is w (codes "beat")) _ _
-        (λ e.
-          let known = subst (λ n. is_no_client names (client_word (n ∷ v ∷ [])) ≡ false) ((bytes_eq-Decides w (codes "beat")).0 e) k in
-          session_is names v clean (known_client names v known))
-        (λ _. choose names (is w (codes "step")) _ _ (λ _. number_is v)
-          (λ _. choose names (is w (codes "crash")) _ _ (λ _. number_is v)
-            (λ _. choose names (is w (codes "fail")) _ _ (λ _. number_is v) (λ _. number_is v))))))
+    (λ e. delivery_is names v clean (subst (λ n. is_no_client names (client_word (n ∷ v ∷ [])) ≡ false) ((bytes_eq-Decides w (codes "deliver")).0 e) k))
+    (λ _. choose names (is w (codes "beat")) _ _
+    (λ e.
+    let known = subst (λ n. is_no_client names (client_word (n ∷ v ∷ [])) ≡ false) ((bytes_eq-Decides w (codes "beat")).0 e) k in
+    session_is names v clean (known_client names v known))
+    (λ _. choose names (is w (codes "step")) _ _ (λ _. number_is v)
+    (λ _. choose names (is w (codes "crash")) _ _ (λ _. number_is v)
+    (λ _. choose names (is w (codes "fail")) _ _ (λ _. number_is v) (λ _. number_is v))))))
 
 -- a line that doesn't offend says a sound turn
 pub turn_read : (names ws : List Word) → AreWords ws → event_fits ws ≡ true → is_no_client names (client_word ws) ≡ false → IsTurn names (turn_of names ws)

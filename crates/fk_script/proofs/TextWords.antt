@@ -1,17 +1,16 @@
 -- The words of a line that was read.
-use Rattle.std.proofs.Common.{◌≡◌, ◌≢◌, ℕ, zero, suc, ◌<◌, ◌≤◌, Bool, true, false, cond, List, [], ◌∷◌, ◌++◌, length, get_or, slice_index, refl, sym, ◌∙◌, ap, subst, arith, codes, inl, inr, ltb, lit<, ◌+◌, ◌/◌}
+use Rattle.std.proofs.Common.{◌≡◌, ◌≢◌, ℕ, zero, suc, ◌<◌, ◌≤◌, Bool, true, false, cond, List, [], ◌∷◌, ◌++◌, length, slice_index, refl, sym, ◌∙◌, ap, subst, arith, inl, inr, ltb, lit<, ◌+◌, ◌/◌}
 use Rattle.std.specs.Prelude.{◌==◌, ◌&&◌, nat_lt, not, filter}
 use Rattle.std.specs.List.{list_all, slice_split, onto_first, AllByRecursion}
 use Rattle.std.specs.Str.{IsUtf8}
 use lib.Utf8.{scalars, scalar, encode, encodes, next}
 use Rattle.base64.specs.GeneralPurpose.{IsBytes}
-use Rattle.std.proofs.lemmas.List.{append-nil}
 use Rattle.std.proofs.lemmas.Bool.{and_parts, and_from, cases_eq, cond_both, ltb-true}
 use Rattle.std.proofs.lemmas.List.Splits.{length-slice_split}
 use Rattle.std.proofs.lemmas.Bool.Decides.{nat_tests}
 use Rattle.std.proofs.lemmas.Str.{IsUtf8-append, IsUtf8-encode, IsUtf8-nil, encode_ascii}
 use Rattle.fk_script.specs.Lines.{Word, words, is_empty, is_space}
-use Rattle.fk_script.proofs.CleanWords.{is_inner, IsWord, AreWords}
+use Rattle.fk_script.proofs.CleanWords.{is_inner, AreWords}
 use Rattle.fk_script.proofs.JoinedLines.{is_fed}
 
 abbrev pub is_spaceless : ℕ → Bool
@@ -54,10 +53,10 @@ encoded_by P c s one two three four =
     cond_both (ltb c 128) (c ∷ []) (cond (ltb c 2048) ((192 + c / 64) ∷ next c ∷ []) (cond (ltb c 65536) ((224 + c / 4096) ∷ next (c / 64) ∷ next c ∷ []) ((240 + c / 262144) ∷ next (c / 4096) ∷ next (c / 64) ∷ next c ∷ []))) P
     (λ e. one (ltb-true c 128 e))
     (λ _. cond_both (ltb c 2048) ((192 + c / 64) ∷ next c ∷ []) (cond (ltb c 65536) ((224 + c / 4096) ∷ next (c / 64) ∷ next c ∷ []) ((240 + c / 262144) ∷ next (c / 4096) ∷ next (c / 64) ∷ next c ∷ [])) P
-      (λ e. let small : c < 2048 = ltb-true c 2048 e in two (192 + c / 64) (next c) (omega arith) (omega arith) (omega arith) (omega arith))
-      (λ _. cond_both (ltb c 65536) ((224 + c / 4096) ∷ next (c / 64) ∷ next c ∷ []) ((240 + c / 262144) ∷ next (c / 4096) ∷ next (c / 64) ∷ next c ∷ []) P
-        (λ e. let small : c < 65536 = ltb-true c 65536 e in three (224 + c / 4096) (next (c / 64)) (next c) (omega arith) (omega arith) (omega arith) (omega arith) (omega arith) (omega arith))
-        (λ _. let small : c < 1114112 = scalar_below c s in four (240 + c / 262144) (next (c / 4096)) (next (c / 64)) (next c) (omega arith) (omega arith) (omega arith) (omega arith) (omega arith) (omega arith) (omega arith) (omega arith))))
+    (λ e. let small : c < 2048 = ltb-true c 2048 e in two (192 + c / 64) (next c) (omega arith) (omega arith) (omega arith) (omega arith))
+    (λ _. cond_both (ltb c 65536) ((224 + c / 4096) ∷ next (c / 64) ∷ next c ∷ []) ((240 + c / 262144) ∷ next (c / 4096) ∷ next (c / 64) ∷ next c ∷ []) P
+    (λ e. let small : c < 65536 = ltb-true c 65536 e in three (224 + c / 4096) (next (c / 64)) (next c) (omega arith) (omega arith) (omega arith) (omega arith) (omega arith) (omega arith))
+    (λ _. let small : c < 1114112 = scalar_below c s in four (240 + c / 262144) (next (c / 4096)) (next (c / 64)) (next c) (omega arith) (omega arith) (omega arith) (omega arith) (omega arith) (omega arith) (omega arith) (omega arith))))
 
 byte_test : (b : ℕ) → b < 256 → is_byte b ≡ true
 byte_test b h = grind (arith, nat_tests)
@@ -68,10 +67,10 @@ bytes_all (c ∷ cs) h =
     let both = and_parts (scalar c) (scalars cs) h in
     all_append is_byte (encode c) (encodes cs)
     (encoded_by (λ w. list_all is_byte w ≡ true) c both.0
-      (λ l. rw (byte_test c (omega arith)) refl)
-      (λ a b _ f _ g. rw (byte_test a f, byte_test b g) refl)
-      (λ a b d _ f _ g _ h. rw (byte_test a f, byte_test b g, byte_test d h) refl)
-      (λ a b d e _ f _ g _ h _ i. rw (byte_test a f, byte_test b g, byte_test d h, byte_test e i) refl))
+    (λ l. rw (byte_test c (omega arith)) refl)
+    (λ a b _ f _ g. rw (byte_test a f, byte_test b g) refl)
+    (λ a b d _ f _ g _ h. rw (byte_test a f, byte_test b g, byte_test d h) refl)
+    (λ a b d e _ f _ g _ h _ i. rw (byte_test a f, byte_test b g, byte_test d h, byte_test e i) refl))
     (bytes_all cs both.1)
 
 bytes_at : (bs : List ℕ) → list_all is_byte bs ≡ true → (i : ℕ) → slice_index bs i < 256
@@ -120,11 +119,14 @@ onto_cons (x ∷ xs) p ps = ap (onto_first x) (onto_cons xs p ps)
 
 onto_pieces : (xs : List ℕ) (ps : List Word) → IsPiece xs → 0 < length ps → AllByRecursion IsPiece ps → AllByRecursion IsPiece (onto_front xs ps)
 onto_pieces xs [] x full h = absurd (omega arith)
-onto_pieces xs (p ∷ ps) x full h = rw onto_cons (record {
-      spaceless = all_append is_spaceless xs p x.spaceless h.0.spaceless;
-      fed = all_append is_fed xs p x.fed h.0.fed;
-      text = IsUtf8-append xs p x.text h.0.text;
-    }, h.1)
+onto_pieces xs (p ∷ ps) x full h = rw onto_cons (
+  record {
+    spaceless = all_append is_spaceless xs p x.spaceless h.0.spaceless;
+    fed = all_append is_fed xs p x.fed h.0.fed;
+    text = IsUtf8-append xs p x.text h.0.text;
+  },
+  h.1,
+)
 
 full_split : (bs : List ℕ) → 0 < length (slice_split is_space bs)
 full_split bs = omega (arith, length-slice_split is_space bs)

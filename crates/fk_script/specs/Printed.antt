@@ -46,7 +46,7 @@ data_words coded (b ∷ bs) = (if coded then encode_of standard (b ∷ bs) else 
 
 abbrev pub create_words : Bool → Bool → Bool → Text → List ℕ → List Text
 create_words seq eph coded path bytes =
-  codes "create" ∷ (word_if seq (codes "-s") ++ word_if eph (codes "-e") ++ word_if coded (codes "-b") ++ path ∷ data_words coded bytes)
+    codes "create" ∷ (word_if seq (codes "-s") ++ word_if eph (codes "-e") ++ word_if coded (codes "-b") ++ path ∷ data_words coded bytes)
 
 abbrev pub set_words : ℤ → Bool → Text → List ℕ → List Text
 set_words version coded path bytes = codes "set" ∷ (version_words version ++ word_if coded (codes "-b") ++ path ∷ data_words coded bytes)
@@ -96,7 +96,7 @@ block_text b = line_text (codes "client" ∷ b.name ∷ []) ++ flat_map (λ c. l
 -- the schedule's line, and one for each of its turns
 abbrev pub schedule_text : List Name → Bool → List Turn → Text
 schedule_text names scheduled turns =
-  if scheduled then line_text (codes "schedule" ∷ []) ++ flat_map (λ t. line_text (turn_words names t)) turns else []
+    if scheduled then line_text (codes "schedule" ∷ []) ++ flat_map (λ t. line_text (turn_words names t)) turns else []
 
 -- the names of the clients, in the order of the file
 abbrev pub block_names : List Block → List Name
@@ -104,7 +104,7 @@ block_names blocks = map (λ (b : Block). b.name) blocks
 
 abbrev pub deployment_text : Deployment → Text
 deployment_text d =
-  line_text (codes "lock" ∷ decimal d.config.lock ∷ [])
+    line_text (codes "lock" ∷ decimal d.config.lock ∷ [])
     ++ line_text (codes "beat" ∷ decimal d.config.beat ∷ [])
     ++ flat_map block_text d.clients
     ++ schedule_text (block_names d.clients) d.scheduled d.turns

@@ -1,5 +1,5 @@
 -- A printed deployment, beside what the definitions give for it.
-use Rattle.std.specs.Prelude.{◌≡◌, ℕ, List, [], ◌∷◌, codes}
+use Rattle.std.specs.Prelude.{◌≡◌, [], ◌∷◌, codes}
 use Rattle.fk_script.specs.Generate.{draw, generated}
 use Rattle.fk_script.specs.Printed.{deployment_text}
 

@@ -107,13 +107,7 @@ fn command(alloc: Global, number: u64, kind: u64, node: u64) -> Result<Command, 
     }
 }
 
-fn create(
-    alloc: Global,
-    path: Text,
-    number: u64,
-    seq: bool,
-    eph: bool,
-) -> Result<Command, NoMemory>
+fn create(alloc: Global, path: Text, number: u64, seq: bool, eph: bool) -> Result<Command, NoMemory>
     ensures { IfOk result (λ c. c ≡ Command.Create path (decimal number) seq eph true) }
 {
     Ok(Command::Create {

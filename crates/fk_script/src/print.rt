@@ -16,7 +16,6 @@ use fk_print::Event;
 use std::alloc::Global;
 
 /// The one printed form of a deployment.
-#[tactic(auto, using(crate::proofs::Returning::text_reads_back))]
 pub fn print_script(alloc: Global, deployment: &Deployment) -> Result<Bytes, NoMemory>
     ensures printed { IfOk result (λ text. text ≡ deployment_text deployment.now) }
 

@@ -1,13 +1,18 @@
 //! Printed deployments, and copies of them.
 
-use crate::{Block, Clients, Command, Commands, Deployment, PartCommand, PartCommands, Turns, generate, print_script};
+use crate::{
+    Block, Clients, Command, Commands, Deployment, PartCommand, PartCommands, Turns, generate,
+    print_script,
+};
 use fk_base::{Bytes, Config, NoMemory, Text};
 use std::alloc::Global;
 use std::test::Fail;
 
-const GENERATED: &str = "lock 10\nbeat 30\nclient c1\ndelete /p6\nclient c2\ncreate /p3 1\nclient c3\nset /p3 1\nclient c4\ncreate -s /p3/q 1\nschedule\ndeliver c3\nstep 2\nstep 1\nclient c4\nclient c4\nclient c3\ndeliver c3\nclock 8\ndeliver leader\ndeliver leader\nstep 8\nstep 6\nstep 3\nclient c4\nclient c2\nclient c1\nstep 8\ndeliver c4\ndeliver leader\ndeliver c4\n";
+const GENERATED: &str =
+    "lock 10\nbeat 30\nclient c1\ndelete /p6\nclient c2\ncreate /p3 1\nclient c3\nset /p3 1\nclient c4\ncreate -s /p3/q 1\nschedule\ndeliver c3\nstep 2\nstep 1\nclient c4\nclient c4\nclient c3\ndeliver c3\nclock 8\ndeliver leader\ndeliver leader\nstep 8\nstep 6\nstep 3\nclient c4\nclient c2\nclient c1\nstep 8\ndeliver c4\ndeliver leader\ndeliver c4\n";
 
-const WRITTEN: &str = "lock 1\nbeat 2\nclient a\n& create -s -e -b /x AAE=\nset -v 0 /x hi\n& multi create -e -b /x Ow== ; set /x ; delete -v 3 /y\nget -w /x\nstat /x\nls /x\nclose\nschedule\n";
+const WRITTEN: &str =
+    "lock 1\nbeat 2\nclient a\n& create -s -e -b /x AAE=\nset -v 0 /x hi\n& multi create -e -b /x Ow== ; set /x ; delete -v 3 /y\nget -w /x\nstat /x\nls /x\nclose\nschedule\n";
 
 /// The text of the deployment of number 1 with one command for each client.
 fn generated(alloc: Global) -> Result<Bytes, NoMemory> {
