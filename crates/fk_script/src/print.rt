@@ -20,7 +20,8 @@ pub fn print_script(alloc: Global, deployment: &Deployment) -> Result<Bytes, NoM
     ensures printed { IfOk result (λ text. text ≡ deployment_text deployment.now) }
 
     // Where some bytes mean the deployment, these do.
-    ensures reads_back { IfOk result (λ text. IsMeant deployment.now → deployment_of text ≡ Means deployment.now) }
+    ensures reads_back { IfOk result (λ text.
+        IsMeant deployment.now → deployment_of text ≡ Means deployment.now) }
 {
     let mut out = Bytes::new(alloc);
     let clients = deployment.clients.as_slice();
@@ -53,7 +54,8 @@ fn put_block(out: &mut Bytes, block: &Block) -> Result<(), NoMemory>
 }
 
 fn put_schedule(out: &mut Bytes, clients: &[Block], turns: &[Turn]) -> Result<(), NoMemory>
-    ensures { OnOk result (out.new ≡ out.old ++ schedule_text (block_names clients.now) true turns.now) }
+    ensures { OnOk result (out.new ≡ out.old
+        ++ schedule_text (block_names clients.now) true turns.now) }
 {
     put_line(out, "schedule", &[])?;
     'writing: for turn in turns {
@@ -63,7 +65,8 @@ fn put_schedule(out: &mut Bytes, clients: &[Block], turns: &[Turn]) -> Result<()
 }
 
 fn put_turn(out: &mut Bytes, clients: &[Block], turn: &Turn) -> Result<(), NoMemory>
-    ensures { OnOk result (out.new ≡ out.old ++ line_text (turn_words (block_names clients.now) turn.now)) }
+    ensures { OnOk result (out.new ≡ out.old
+        ++ line_text (turn_words (block_names clients.now) turn.now)) }
 {
     match turn {
         Turn::One(event) => put_event(out, clients, event),
@@ -72,7 +75,8 @@ fn put_turn(out: &mut Bytes, clients: &[Block], turn: &Turn) -> Result<(), NoMem
 }
 
 fn put_event(out: &mut Bytes, clients: &[Block], event: &Event) -> Result<(), NoMemory>
-    ensures { OnOk result (out.new ≡ out.old ++ line_text (event_words (block_names clients.now) event.now)) }
+    ensures { OnOk result (out.new ≡ out.old
+        ++ line_text (event_words (block_names clients.now) event.now)) }
 {
     use Piece::*;
     match event {

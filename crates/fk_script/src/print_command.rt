@@ -4,7 +4,7 @@ ghost use Rattle.std.specs.Prelude.{◌≡◌, ◌∷◌, ◌++◌, codes, OnOk}
 ghost use Rattle.std.specs.List.{list_all};
 ghost use Rattle.fk_print.specs.Words.{is_plain, spaced};
 ghost use Rattle.fk_script.specs.Pieces.{words_of};
-ghost use Rattle.fk_script.specs.Printed.{and_words, beginning, command_words, is_coded, is_coded_in_part, line_text, part_words, parts_words, read_words};
+ghost use Rattle.fk_script.specs.Printed.{and_words, beginning, command_words, create_words, is_coded, is_coded_in_part, line_text, part_words, parts_words, read_words, set_words};
 
 use crate::command::{Command, PartCommand};
 use crate::piece::{Piece, put_line, put_words};
@@ -14,7 +14,6 @@ use fk_base::{Bytes, NoMemory, Text};
 pub(crate) fn put_command(out: &mut Bytes, command: &Command) -> Result<(), NoMemory>
     ensures { OnOk result (out.new ≡ out.old ++ line_text (command_words command.now)) }
 {
-    use Piece::*;
     match command {
         Command::Create {
             path,
@@ -22,40 +21,13 @@ pub(crate) fn put_command(out: &mut Bytes, command: &Command) -> Result<(), NoMe
             seq,
             eph,
             wait,
-        } => {
-            let coded = is_coded(bytes);
-            put_write(
-                out,
-                *wait,
-                "create",
-                &[
-                    If(*seq, "-s"),
-                    If(*eph, "-e"),
-                    If(coded, "-b"),
-                    Word(path.as_str()),
-                    Data(bytes, coded),
-                ],
-            )
-        }
+        } => put_create(out, *wait, *seq, *eph, path, bytes),
         Command::Set {
             path,
             bytes,
             version,
             wait,
-        } => {
-            let coded = is_coded(bytes);
-            put_write(
-                out,
-                *wait,
-                "set",
-                &[
-                    Version(*version),
-                    If(coded, "-b"),
-                    Word(path.as_str()),
-                    Data(bytes, coded),
-                ],
-            )
-        }
+        } => put_set(out, *wait, *version, path, bytes),
         Command::Delete {
             path,
             version,
@@ -64,7 +36,7 @@ pub(crate) fn put_command(out: &mut Bytes, command: &Command) -> Result<(), NoMe
             out,
             *wait,
             "delete",
-            &[Version(*version), Word(path.as_str())],
+            &[Piece::Version(*version), Piece::Word(path.as_str())],
         ),
         Command::Get { path, watch } => put_read(out, "get", *watch, path),
         Command::Stat { path, watch } => put_read(out, "stat", *watch, path),
@@ -72,6 +44,58 @@ pub(crate) fn put_command(out: &mut Bytes, command: &Command) -> Result<(), NoMe
         Command::Close => put_line(out, "close", &[]),
         Command::Multi { parts, wait } => put_multi(out, *wait, parts.as_slice()),
     }
+}
+
+fn put_create<'a>(
+    out: &mut Bytes,
+    wait: bool,
+    seq: bool,
+    eph: bool,
+    path: &'a Text,
+    bytes: &'a Bytes,
+) -> Result<(), NoMemory>
+    ensures { OnOk result (out.new ≡ out.old
+        ++ line_text (and_words wait ++ create_words seq eph (is_coded bytes.now) path.now bytes.now)) }
+{
+    use Piece::*;
+    let coded = is_coded(bytes);
+    put_write(
+        out,
+        wait,
+        "create",
+        &[
+            If(seq, "-s"),
+            If(eph, "-e"),
+            If(coded, "-b"),
+            Word(path.as_str()),
+            Data(bytes, coded),
+        ],
+    )
+}
+
+fn put_set<'a>(
+    out: &mut Bytes,
+    wait: bool,
+    version: i32,
+    path: &'a Text,
+    bytes: &'a Bytes,
+) -> Result<(), NoMemory>
+    ensures { OnOk result (out.new ≡ out.old
+        ++ line_text (and_words wait ++ set_words version (is_coded bytes.now) path.now bytes.now)) }
+{
+    use Piece::*;
+    let coded = is_coded(bytes);
+    put_write(
+        out,
+        wait,
+        "set",
+        &[
+            Version(version),
+            If(coded, "-b"),
+            Word(path.as_str()),
+            Data(bytes, coded),
+        ],
+    )
 }
 
 fn put_read(out: &mut Bytes, verb: &str, watch: bool, path: &Text) -> Result<(), NoMemory>
@@ -87,14 +111,16 @@ fn put_read(out: &mut Bytes, verb: &str, watch: bool, path: &Text) -> Result<(),
 /// Writes a line that begins with `&` where the client doesn't wait.
 #[tactic(auto, using(crate::proofs::PrintedLines::line_begins))]
 fn put_write(out: &mut Bytes, wait: bool, verb: &str, pieces: &[Piece]) -> Result<(), NoMemory>
-    ensures { OnOk result (out.new ≡ out.old ++ line_text (and_words wait ++ verb.now ∷ words_of pieces.now)) }
+    ensures { OnOk result (out.new ≡ out.old
+        ++ line_text (and_words wait ++ verb.now ∷ words_of pieces.now)) }
 {
     put_and(out, wait)?;
     put_line(out, verb, pieces)
 }
 
 fn put_multi(out: &mut Bytes, wait: bool, parts: &[PartCommand]) -> Result<(), NoMemory>
-    ensures { OnOk result (out.new ≡ out.old ++ line_text (and_words wait ++ codes "multi" ∷ parts_words parts.now)) }
+    ensures { OnOk result (out.new ≡ out.old
+        ++ line_text (and_words wait ++ codes "multi" ∷ parts_words parts.now)) }
 {
     put_and(out, wait)?;
     out.append(b"multi")?;
