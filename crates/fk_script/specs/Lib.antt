@@ -6,4 +6,5 @@ pub mod Reading
 pub mod Reasons
 pub mod SoFar
 pub mod Values
+pub mod WordLaws
 pub mod WorkedFiles

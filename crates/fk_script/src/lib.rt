@@ -15,6 +15,7 @@ mod progress;
 mod read;
 mod values;
 mod why;
+mod word_laws;
 mod words;
 mod worked;
 
@@ -24,6 +25,7 @@ pub use fault::ScriptFault;
 pub use lists::{Clients, Commands, PartCommands, Turns};
 pub use read::read_script;
 pub use why::Why;
+pub use word_laws::{data_is_encoded, numbers_are_decimal};
 pub use worked::{crowded_is_read, offenders_are_judged, service_is_read};
 
 #[cfg(test)]
