@@ -21,3 +21,4 @@ pub mod SoundCommands
 pub mod SoundLines
 pub mod SoundTurns
 pub mod TextWords
+pub mod WordValues

@@ -10,5 +10,6 @@ pub mod Reading
 pub mod Reasons
 pub mod SoFar
 pub mod Values
+pub mod WordLaws
 pub mod WorkedFiles
 pub mod WorkedScripts

@@ -21,6 +21,7 @@ mod progress;
 mod read;
 mod values;
 mod why;
+mod word_laws;
 mod words;
 mod worked;
 
@@ -33,6 +34,7 @@ pub use print::print_script;
 pub use print_laws::{generated_is_meant, printed_reads_back, worked_script};
 pub use read::read_script;
 pub use why::Why;
+pub use word_laws::{data_is_encoded, numbers_are_decimal};
 pub use worked::{crowded_is_read, offenders_are_judged, service_is_read};
 
 #[cfg(test)]
