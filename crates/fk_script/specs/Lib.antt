@@ -1,8 +1,15 @@
 pub mod CommandLines
 pub mod EventLines
+pub mod Generate
 pub mod Lines
 pub mod Phrases
+pub mod Pieces
+pub mod PrintLaws
+pub mod Printed
 pub mod Reading
 pub mod Reasons
 pub mod SoFar
 pub mod Values
+pub mod WordLaws
+pub mod WorkedFiles
+pub mod WorkedScripts

@@ -1,4 +1,4 @@
--- A command, or a part of a multi, by its words. What is said here of a command is said of a part too.
+-- A command, or a part of a multi, by its words. What is said of a command is said of a part too.
 use Rattle.std.specs.Prelude.{ℕ, ℤ, negsuc, ◌==◌, Bool, true, false, if◌then◌else◌, ◌&&◌, ◌||◌, not, List, [], ◌∷◌, codes, length, Option, Some, None, unwrap_or, is_none}
 use Rattle.std.specs.List.{list_all}
 use Rattle.fk_script.specs.declared.command.Command.{Command}
@@ -48,7 +48,7 @@ is_command_name name = is_one_of (codes "create" ∷ codes "set" ∷ codes "dele
 abbrev pub is_part_name : Word → Bool
 is_part_name name = is_one_of (codes "create" ∷ codes "set" ∷ codes "delete" ∷ []) name
 
--- a command that doesn't write, or closes the session
+-- a read, or a close: its client waits for it in any case
 abbrev pub is_always_waited_for : Word → Bool
 is_always_waited_for name = is_one_of (codes "get" ∷ codes "stat" ∷ codes "ls" ∷ codes "close" ∷ []) name
 
@@ -64,13 +64,13 @@ is_option_of in_multi name option = (is option (codes "-s") && is name (codes "c
 abbrev pub has_bad_option : Bool → Phrase → Bool
 has_bad_option in_multi p = not (list_all (is_option_of in_multi p.name) p.options) || has_repeated p.options
 
--- a path, and data behind it or none: a path alone: nothing
+-- A create and a set have a path, and may have data; a delete and the reads have a path alone; a close has nothing.
 abbrev pub fits : Phrase → Bool
 fits p = (is_one_of (codes "create" ∷ codes "set" ∷ []) p.name && ((length p.rest == 1) || (length p.rest == 2)))
     || (is_one_of (codes "delete" ∷ codes "get" ∷ codes "stat" ∷ codes "ls" ∷ []) p.name && (length p.rest == 1))
     || (is p.name (codes "close") && (length p.rest == 0))
 
--- a part with a first word that no part has
+-- a part whose first word is no part's name; an empty part has no first word
 abbrev pub is_unknown_part : Phrase → Bool
 is_unknown_part p = not (is p.name []) && not (is_part_name p.name)
 
@@ -109,7 +109,7 @@ abbrev pub expected : Option Word → ℤ
 expected None = negsuc 0
 expected (Some word) = unwrap_or (version word) (negsuc 0)
 
--- a command that writes nothing
+-- a read, or a close
 abbrev pub read_of : Word → Phrase → Command
 read_of path p = if is p.name (codes "get") then command.Get path (has_option (codes "-w") p)
     else if is p.name (codes "stat") then command.Stat path (has_option (codes "-w") p)

@@ -1,6 +1,6 @@
 //! Lists of this crate's types, which contracts see as lists.
 
-ghost use Rattle.std.specs.Prelude.{◌≡◌, [], ◌∷◌, ◌++◌, OnOk, OnErr};
+ghost use Rattle.std.specs.Prelude.{◌≡◌, [], ◌∷◌, ◌++◌, IfOk, OnOk, OnErr};
 
 use crate::command::{Command, PartCommand};
 use crate::deployment::{Block, Turn};
@@ -45,6 +45,16 @@ impl Commands {
     {
         self.items.as_slice()
     }
+
+    pub fn copy(&self) -> Result<Self, NoMemory>
+        ensures { IfOk result (λ l. l ≡ self.now) }
+    {
+        let mut items = Vec::new(*self.items.allocator());
+        'copying: for item in &self.items {
+            items.push(item.copy()?)?;
+        }
+        Ok(Commands { items })
+    }
 }
 
 /// A list of PartCommands: the parts of a multi, in order.
@@ -83,6 +93,16 @@ impl PartCommands {
         ensures { result.now ≡ self.now }
     {
         self.items.as_slice()
+    }
+
+    pub fn copy(&self) -> Result<Self, NoMemory>
+        ensures { IfOk result (λ l. l ≡ self.now) }
+    {
+        let mut items = Vec::new(*self.items.allocator());
+        'copying: for item in &self.items {
+            items.push(item.copy()?)?;
+        }
+        Ok(PartCommands { items })
     }
 }
 
@@ -123,6 +143,16 @@ impl Clients {
     {
         self.items.as_slice()
     }
+
+    pub fn copy(&self) -> Result<Self, NoMemory>
+        ensures { IfOk result (λ l. l ≡ self.now) }
+    {
+        let mut items = Vec::new(*self.items.allocator());
+        'copying: for item in &self.items {
+            items.push(item.copy()?)?;
+        }
+        Ok(Clients { items })
+    }
 }
 
 /// A list of Turns: the schedule, in order.
@@ -161,5 +191,13 @@ impl Turns {
         ensures { result.now ≡ self.now }
     {
         self.items.as_slice()
+    }
+
+    pub fn copy(&self) -> Result<Self, NoMemory>
+        ensures { IfOk result (λ l. l ≡ self.now) }
+    {
+        Ok(Turns {
+            items: self.items.clone()?,
+        })
     }
 }
