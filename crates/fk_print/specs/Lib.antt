@@ -4,5 +4,6 @@ pub mod EventText
 pub mod LineText
 pub mod OpText
 pub mod Pieces
+pub mod WellFormed
 pub mod Words
 pub mod Worked

@@ -1,0 +1,9 @@
+pub mod ClientsBack
+pub mod Cuts
+pub mod DataBack
+pub mod Numbers
+pub mod OpsBack
+pub mod OpsShown
+pub mod Shown
+pub mod SpotsBack
+pub mod WordsBack
