@@ -1,6 +1,7 @@
 pub mod ClientsBack
 pub mod Cuts
 pub mod DataBack
+pub mod Loops
 pub mod Numbers
 pub mod OpsBack
 pub mod OpsShown

@@ -1,7 +1,11 @@
 pub mod Cut
+pub mod EndingFits
+pub mod ReadAct
 pub mod ReadClient
 pub mod ReadEnding
+pub mod ReadEvent
+pub mod ReadLine
 pub mod ReadOp
+pub mod ReadReply
 pub mod ReadWords
 pub mod Reads
-pub mod EndingFits

@@ -25,6 +25,9 @@ ending_of words = then_word words λ word rest.
     if bytes_eq word (codes "ok") then Some ending.Done else miss_of rest
 
 -- a part's place, 0 where none is said, and a number behind `@`
-abbrev pub take_spot : List Text → Option ((ℕ × ℕ) × List Text)
-take_spot words = then_word words λ word rest.
+abbrev pub spot_by : Text → List Text → Option ((ℕ × ℕ) × List Text)
+spot_by word rest =
     option_or_else (at_of word) (λ m. Some ((0, m), rest)) (option_and_then (λ place. then_read (take at_of rest) λ m rest. Some ((place, m), rest)) (small_of word))
+
+abbrev pub take_spot : List Text → Option ((ℕ × ℕ) × List Text)
+take_spot words = then_word words spot_by

@@ -1,7 +1,7 @@
 ghost use Rattle.std.specs.Prelude.{IfOk, ◌≡◌};
 ghost use Rattle.fk_print.specs.WellFormed.{IsNumber, IsSmall};
 ghost use Rattle.fk_read.specs.EndingFits.{IsEnding};
-ghost use Rattle.fk_read.specs.ReadEnding.{ending_of, miss_of, take_spot};
+ghost use Rattle.fk_read.specs.ReadEnding.{ending_of, miss_of, spot_by, take_spot};
 ghost use Rattle.fk_read.specs.Reads.{Reads, Takes};
 
 use crate::piece::{at, small};
@@ -58,6 +58,14 @@ pub(crate) fn read_spot(words: &mut Cut) -> Result<(u32, u64), Unread>
     ensures fits { IfOk result (λ spot. IsSmall spot.0 × IsNumber spot.1) }
 {
     let word = words.word()?;
+    read_spot_at(word, words)
+}
+
+/// The same, where the first word was taken.
+pub(crate) fn read_spot_at(word: &[u8], words: &mut Cut) -> Result<(u32, u64), Unread>
+    ensures reads { Takes result words.new (spot_by word.now words.old) }
+    ensures fits { IfOk result (λ spot. IsSmall spot.0 × IsNumber spot.1) }
+{
     if let Some(at) = at(word) {
         return Ok((0, at));
     }

@@ -107,7 +107,7 @@ impl<'a> Cut<'a> {
         let Some(word) = self.next() else {
             return Err(Unread::Malformed);
         };
-        read_path(self.allocator(), word)
+        path_word(self.allocator(), word)
     }
 
     /// A name that a listing shows.
@@ -270,7 +270,7 @@ fn code(word: &[u8]) -> Option<Code>
 }
 
 #[tactic(auto, unfolding(crate::specs::ReadWords::path_of_word), using(crate::proofs::Numbers::not_utf8))]
-fn read_path(alloc: Global, word: &[u8]) -> Result<Path, Unread>
+pub(crate) fn path_word(alloc: Global, word: &[u8]) -> Result<Path, Unread>
     ensures reads { Reads result (path_of_word word.now) }
     ensures fits { IfOk result IsPath }
 {

@@ -1,5 +1,5 @@
 use Rattle.fk_read.proofs.Numbers.{path_fits, path_is}
-use Rattle.fk_read.proofs.piece.read_path.Goals as goal
+use Rattle.fk_read.proofs.piece.path_word.Goals as goal
 
 pub returns-in-Ok-parse-clause-reads : goal.returns-in-Ok-parse-clause-reads
 returns-in-Ok-parse-clause-reads c =
