@@ -145,3 +145,19 @@ client_not_reserved names c w f =
 
 pub words_in_client : (names : List Name) (c : ℕ) → are_client_names names ≡ true → IsClient names c → words_in (client names c) ≡ client names c ∷ []
 words_in_client names c w f = words_in_bare (client names c) (bare_client names c w f)
+
+not_leader : (a b c : Bool) → (a || b || c) ≡ false → (a ≡ false) × (b ≡ false)
+not_leader false false c e = (refl, refl)
+not_leader false true c e = absurd (false≢true (sym e))
+not_leader true b c e = absurd (false≢true (sym e))
+
+client_is_no_word : (names : List Name) (c : ℕ) → are_client_names names ≡ true → IsClient names c
+    → (bytes_eq (client names c) (codes "leader") ≡ false) × (bytes_eq (client names c) (codes "watch") ≡ false)
+client_is_no_word names c w f =
+    not_leader (bytes_eq (client names c) (codes "leader")) (bytes_eq (client names c) (codes "watch")) (bytes_eq (client names c) (codes "client")) (client_not_reserved names c w f)
+
+pub client_not_leader : (names : List Name) (c : ℕ) → are_client_names names ≡ true → IsClient names c → bytes_eq (client names c) (codes "leader") ≡ false
+client_not_leader names c w f = (client_is_no_word names c w f).0
+
+pub client_not_watch : (names : List Name) (c : ℕ) → are_client_names names ≡ true → IsClient names c → bytes_eq (client names c) (codes "watch") ≡ false
+client_not_watch names c w f = (client_is_no_word names c w f).1

@@ -1,10 +1,15 @@
+pub mod ActsBack
 pub mod ClientsBack
 pub mod Cuts
 pub mod DataBack
+pub mod EventsBack
+pub mod Expected
+pub mod Lists
 pub mod Loops
 pub mod Numbers
 pub mod OpsBack
 pub mod OpsShown
+pub mod Plain
 pub mod Shown
 pub mod SpotsBack
 pub mod WordsBack

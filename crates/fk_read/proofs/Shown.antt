@@ -1,5 +1,5 @@
 -- Words that don't break a line: no byte of theirs is below the space.
-use Rattle.std.proofs.Common.{◌≡◌, ℕ, ◌<◌, ◌^◌, Bool, true, false, cond, List, [], ◌∷◌, ◌++◌, codes, refl, arith}
+use Rattle.std.proofs.Common.{◌≡◌, ℕ, ◌<◌, ◌^◌, Bool, true, false, cond, List, [], ◌∷◌, ◌++◌, codes, map, refl, arith}
 use Rattle.std.specs.Prelude.{◌&&◌, ◌==◌, nat_le, ⊤}
 use Rattle.std.specs.List.{AllByRecursion, list_all}
 use Rattle.std.specs.Fmt.{decimal}
@@ -10,9 +10,9 @@ use Rattle.fk_base.specs.declared.code.Code.{Code}
 use Rattle.fk_print.specs.ClientNames.{are_client_names}
 use Rattle.fk_print.specs.Words.{Text, at, client, place_words}
 use Rattle.fk_print.specs.OpText.{word_text}
-use Rattle.fk_print.specs.WellFormed.{IsClient, IsNumber, IsPath, IsSmall}
+use Rattle.fk_print.specs.WellFormed.{IsClient, IsNumber, IsPath, IsShownName, IsSmall}
 use Rattle.fk_print.specs.declared.op.Word.{Word}
-use Rattle.fk_read.proofs.WordsBack.{and_both, bare_at, bare_code, bare_decimal, bare_path, is_bare}
+use Rattle.fk_read.proofs.WordsBack.{and_both, bare_at, bare_code, bare_decimal, bare_name, bare_path, is_bare}
 use Rattle.fk_read.proofs.ClientsBack.{bare_client}
 use Rattle.fk_read.proofs.SpotsBack.{bare_word}
 
@@ -56,3 +56,15 @@ shown_spot place m rest small l r = step (place == 0)
     step : (b : Bool) → AreShown (cond b [] (decimal place ∷ []) ++ at m ∷ rest)
     step true = (shown_at m l, r)
     step false = (shown_decimal place (wide place small), (shown_at m l, r))
+
+pub shown_append : (a b : List Text) → AreShown a → AreShown b → AreShown (a ++ b)
+shown_append [] b e f = f
+shown_append (w ∷ a) b e f = (e.0, shown_append a b e.1 f)
+
+pub shown_paths : (paths : List PathNames) → AllByRecursion IsPath paths → AreShown (map path_text paths)
+shown_paths [] each = tt
+shown_paths (p ∷ paths) each = (shown_path p each.0, shown_paths paths each.1)
+
+pub shown_names : (names : List Name) → AllByRecursion IsShownName names → AreShown names
+shown_names [] each = tt
+shown_names (n ∷ names) each = (bare_shown n (bare_name n each.0.0), shown_names names each.1)

@@ -21,7 +21,7 @@ use Rattle.fk_read.proofs.WordsBack.{at_back, bare_at, bare_decimal, decimal_dig
 digit_no_at : (c : ℕ) (rest : Bool) → (is_ascii_digit c && rest) ≡ true → (c == 64) ≡ false
 digit_no_at c rest h = grind (arith, nat_tests)
 
-digits_no_at : (ds : Text) → all_ascii_digits ds ≡ true → at_of ds ≡ None
+pub digits_no_at : (ds : Text) → all_ascii_digits ds ≡ true → at_of ds ≡ None
 unfolding at_of
 digits_no_at [] h = refl
 digits_no_at (c ∷ ds) h = rw (digit_no_at c (all_ascii_digits ds) h) refl

@@ -27,11 +27,11 @@ use Rattle.fk_read.proofs.Cuts.{cut_none}
 abbrev pub is_bare : Text → Bool
 is_bare = list_all (λ b. nat_le 33 b)
 
-and_left : (a b : Bool) → (a && b) ≡ true → a ≡ true
+pub and_left : (a b : Bool) → (a && b) ≡ true → a ≡ true
 and_left true b e = refl
 and_left false b e = absurd (false≢true e)
 
-and_right : (a b : Bool) → (a && b) ≡ true → b ≡ true
+pub and_right : (a b : Bool) → (a && b) ≡ true → b ≡ true
 and_right true b e = e
 and_right false b e = absurd (false≢true e)
 
@@ -151,7 +151,7 @@ name_unbarred n e = not_true (has_barred n) (and_right (not (is_dots n)) (not (h
 pub bare_name : (n : Name) → is_name n ≡ true → is_bare n ≡ true
 bare_name n e = unbarred_bare n (name_unbarred n e)
 
-bare_append : (a b : Text) → is_bare a ≡ true → is_bare b ≡ true → is_bare (a ++ b) ≡ true
+pub bare_append : (a b : Text) → is_bare a ≡ true → is_bare b ≡ true → is_bare (a ++ b) ≡ true
 bare_append [] b e f = f
 bare_append (c ∷ a) b e f = and_both (nat_le 33 c) (is_bare (a ++ b)) (and_left (nat_le 33 c) (is_bare a) e) (bare_append a b (and_right (nat_le 33 c) (is_bare a) e) f)
 

@@ -12,7 +12,7 @@ use fk_base::{Bytes, NoMemory};
 use std::alloc::Global;
 
 /// The data that a word says.
-#[tactic(auto, unfolding(crate::specs::ReadWords::data_of), using(crate::proofs::DataBack::plain_fits))]
+#[tactic(auto, unfolding(crate::specs::ReadWords::data_of), using(crate::proofs::Plain::plain_fits))]
 pub(crate) fn read_data(alloc: Global, word: &[u8]) -> Result<Bytes, Unread>
     ensures reads { Reads result (data_of word.now) }
     ensures fits { IfOk result IsData }
