@@ -4,12 +4,15 @@ pub mod Cuts
 pub mod DataBack
 pub mod EventsBack
 pub mod Expected
+pub mod HistoryBack
+pub mod LinesBack
 pub mod Lists
 pub mod Loops
 pub mod Numbers
 pub mod OpsBack
 pub mod OpsShown
 pub mod Plain
+pub mod RepliesBack
 pub mod Shown
 pub mod SpotsBack
 pub mod WordsBack

@@ -4,6 +4,7 @@ pub mod ReadAct
 pub mod ReadClient
 pub mod ReadEnding
 pub mod ReadEvent
+pub mod ReadHistory
 pub mod ReadLine
 pub mod ReadOp
 pub mod ReadReply

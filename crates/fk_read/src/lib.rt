@@ -13,6 +13,7 @@ mod line;
 mod notifier_op;
 mod op;
 mod piece;
+mod reading;
 mod reply;
 mod unread;
 mod words;
