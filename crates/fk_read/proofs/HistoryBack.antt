@@ -135,7 +135,7 @@ entry_back names h e rest known f =
     let t = event_text names e.event in
     let o = op_text names e.op in
     let ls = flat_map (line_text names) e.lines in
-    ap (λ x. read_lines names (all_read h) (lines_in x)) (append_assoc t (o ++ ls) rest ∙ ap (λ y. t ++ y) (append_assoc o ls rest))
+    ap (λ x. read_lines names (all_read h) (lines_in x)) (append_assoc (t ++ o) ls rest ∙ append_assoc t o (ls ++ rest))
     ∙ event_step names (all_read h) e (o ++ (ls ++ rest)) known f
     ∙ ap (λ x. read_lines names (record { history = x; entry = None; event = Some e.event }) (lines_in (o ++ (ls ++ rest)))) (all_closed h)
     ∙ op_step names h e (ls ++ rest) known f

@@ -15,4 +15,5 @@ pub mod Plain
 pub mod RepliesBack
 pub mod Shown
 pub mod SpotsBack
+pub mod TextOfOne
 pub mod WordsBack

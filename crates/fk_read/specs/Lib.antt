@@ -1,5 +1,6 @@
 pub mod Cut
 pub mod EndingFits
+pub mod OneHistory
 pub mod ReadAct
 pub mod ReadClient
 pub mod ReadEnding

@@ -2,6 +2,7 @@
 #![tactic(auto)]
 
 mod act;
+mod back;
 mod client_op;
 mod data;
 mod ending;
@@ -17,3 +18,5 @@ mod reading;
 mod reply;
 mod unread;
 mod words;
+
+pub use back::{one_history, read_back};
