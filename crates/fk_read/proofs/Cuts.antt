@@ -28,7 +28,7 @@ pub first_piece : (p : ℕ → Bool) (text : List ℕ) (end : ℕ) → IsEnd p t
     → slice_split p text ≡ take end text ∷ slice_split p (take (length text - (end + 1)) (drop (end + 1) text))
 first_piece p text end e l =
     let whole : take (length text - (end + 1)) (drop (end + 1) text) ≡ drop (end + 1) text
-            = take_all (length text - (end + 1)) (drop (end + 1) text) (omega (arith, length-drop (end + 1) text)) in
+    = take_all (length text - (end + 1)) (drop (end + 1) text) (omega (arith, length-drop (end + 1) text)) in
     rw (whole, add-one) (cut_at p text end e l)
 
 pub last_piece : (p : ℕ → Bool) (text : List ℕ) (end : ℕ) → IsEnd p text end → end ≡ length text

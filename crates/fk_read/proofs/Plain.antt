@@ -15,4 +15,3 @@ pub plain_fits : (bytes : List ℕ) → list_all is_plain bytes ≡ true → IsD
 plain_fits [] e i = omega arith
 plain_fits (b ∷ bytes) e zero = (plain_byte b (list_all is_plain bytes) e).0
 plain_fits (b ∷ bytes) e (suc i) = plain_fits bytes (plain_byte b (list_all is_plain bytes) e).1 i
-

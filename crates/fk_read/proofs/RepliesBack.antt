@@ -53,8 +53,19 @@ replies_back replies items each = rw (flat_map-map part_reply_word replies) (ont
 
 stat_back : (s : Stat) → IsStat s → stat_of (flat_map words_in (stat_words s)) ≡ Some s
 stat_back s f =
-    rw (take_number s.czxid f.0, take_number s.mzxid f.1, take_number s.pzxid f.2, take_number s.ctime f.3, take_number s.mtime f.4, take_small s.version f.5,
-    take_small s.cversion f.6, take_small s.aversion f.7, take_small s.owner f.8, take_small s.length f.9, take_small s.children f.10) refl
+    rw (
+      take_number s.czxid f.0,
+      take_number s.mzxid f.1,
+      take_number s.pzxid f.2,
+      take_number s.ctime f.3,
+      take_number s.mtime f.4,
+      take_small s.version f.5,
+      take_small s.cversion f.6,
+      take_small s.aversion f.7,
+      take_small s.owner f.8,
+      take_small s.length f.9,
+      take_small s.children f.10,
+    ) refl
 
 -- the number of a code is one word
 code_number_words : (c : Code) (rest : List Text) → words_in (signed_decimal (code_number c)) ++ rest ≡ signed_decimal (code_number c) ∷ rest

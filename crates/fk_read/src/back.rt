@@ -16,11 +16,7 @@ use std::alloc::Global;
 /// Each line is read once, by the words that tell it from others; then the history is written
 /// again, and only its own text passes.
 #[tactic(auto, using(crate::proofs::TextOfOne::not_read, crate::proofs::TextOfOne::not_same))]
-pub fn read_back(
-    alloc: Global,
-    clients: &Names,
-    bytes: &[u8],
-) -> Result<Option<History>, NoMemory>
+pub fn read_back(alloc: Global, clients: &Names, bytes: &[u8]) -> Result<Option<History>, NoMemory>
     requires { are_client_names clients.now ≡ true }
     ensures some { IfOk result (λ o. IfSome o (λ h. IsWellFormed clients.now h
         × (bytes.now ≡ history_text clients.now h))) }

@@ -13,7 +13,11 @@ use fk_base::Names;
 use fk_print::{Op, Word};
 
 /// Reads a function's operation, behind the function's number.
-pub(crate) fn read_function_op(clients: &Names, function: u64, words: &mut Cut) -> Result<Op, Unread>
+pub(crate) fn read_function_op(
+    clients: &Names,
+    function: u64,
+    words: &mut Cut,
+) -> Result<Op, Unread>
     requires { IsNumber function }
     ensures reads { Reads result (function_op clients.now function words.old) }
     ensures fits { IfOk result (IsOp clients.now) }
@@ -54,12 +58,7 @@ pub(crate) fn read_function_op(clients: &Names, function: u64, words: &mut Cut) 
 }
 
 /// Reads an operation behind its first word.
-fn read_named_op(
-    clients: &Names,
-    function: u64,
-    word: Word,
-    words: &mut Cut,
-) -> Result<Op, Unread>
+fn read_named_op(clients: &Names, function: u64, word: Word, words: &mut Cut) -> Result<Op, Unread>
     requires { IsNumber function }
     ensures reads { Reads result (named_op clients.now function word words.old) }
     ensures fits { IfOk result (IsOp clients.now) }

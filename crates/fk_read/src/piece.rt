@@ -142,13 +142,7 @@ fn number_below(word: &[u8], limit: u64) -> Option<u64>
         return None;
     };
     match text.parse::<u64>() {
-        Ok(number) => {
-            if number < limit {
-                Some(number)
-            } else {
-                None
-            }
-        }
+        Ok(number) => { if number < limit { Some(number) } else { None } }
         Err(_) => None,
     }
 }
@@ -179,13 +173,7 @@ pub(crate) fn at(word: &[u8]) -> Option<u64>
 {
     match word {
         [] => None,
-        [mark, digits @ ..] => {
-            if *mark == b'@' {
-                number(digits)
-            } else {
-                None
-            }
-        }
+        [mark, digits @ ..] => { if *mark == b'@' { number(digits) } else { None } }
     }
 }
 

@@ -37,7 +37,9 @@ pub(crate) fn read_history(alloc: Global, clients: &Names, text: &[u8]) -> Resul
         reading = read_text(alloc, clients, reading, line)?;
     }
     let Reading {
-        mut history, entry, ..
+        mut history,
+        entry,
+        ..
     } = reading;
     close(&mut history, entry)?;
     Ok(history)
@@ -103,7 +105,9 @@ fn with_event(clients: &Names, reading: Reading, event: Event) -> Result<Reading
     ensures fits { IfOk result (IsRead clients.now) }
 {
     let Reading {
-        mut history, entry, ..
+        mut history,
+        entry,
+        ..
     } = reading;
     close(&mut history, entry)?;
     Ok(Reading {
@@ -146,11 +150,13 @@ fn with_line(clients: &Names, reading: Reading, line: Line) -> Result<Reading, U
         entry,
         event,
     } = reading;
-    let Some(Entry {
-        event: of,
-        op,
-        mut lines,
-    }) = entry
+    let Some(
+        Entry {
+            event: of,
+            op,
+            mut lines,
+        },
+    ) = entry
     else {
         return Err(Unread::Malformed);
     };

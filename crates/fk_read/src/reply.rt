@@ -132,13 +132,8 @@ fn with_places(verb: Verb) -> bool
 {
     match verb {
         Verb::Multi => true,
-        Verb::Create
-        | Verb::Set
-        | Verb::Delete
-        | Verb::Get
-        | Verb::Stat
-        | Verb::Ls
-        | Verb::Close => false,
+        Verb::Create | Verb::Set | Verb::Delete | Verb::Get | Verb::Stat | Verb::Ls | Verb::Close =>
+            false,
     }
 }
 

@@ -10,7 +10,7 @@ reading-preserved c =
     let pushed = c.in_ok-push.ensures.ok in
     let was = c.reading.parts in
     record {
-    left = c.reading.invariant.left ∙ take_more take_part c.args.count c.reading._done was c.push.new.self c.reading.words c.read_part.new.words x (omega arith) c.in_ok-part.ensures.reads pushed;
-    fits = each_more IsPart was c.push.new.self x c.reading.invariant.fits c.in_ok-part.ensures.fits pushed;
-    counted = length_more was c.push.new.self x c.reading._done c.reading.invariant.counted pushed;
+      left = c.reading.invariant.left ∙ take_more take_part c.args.count c.reading._done was c.push.new.self c.reading.words c.read_part.new.words x (omega arith) c.in_ok-part.ensures.reads pushed;
+      fits = each_more IsPart was c.push.new.self x c.reading.invariant.fits c.in_ok-part.ensures.fits pushed;
+      counted = length_more was c.push.new.self x c.reading._done c.reading.invariant.counted pushed;
     }

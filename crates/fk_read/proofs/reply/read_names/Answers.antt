@@ -11,7 +11,7 @@ reading-preserved c =
     let pushed = c.in_ok-push.ensures.ok in
     let was = c.reading.names in
     record {
-    left = c.reading.invariant.left ∙ take_more (take name_of_word) c.args.count c.reading._done was c.push.new.self c.reading.words c.name.new.self x (omega arith) c.in_ok-name.ensures.reads pushed;
-    fits = each_more IsShownName was c.push.new.self x c.reading.invariant.fits c.in_ok-name.ensures.fits pushed;
-    counted = length_more was c.push.new.self x c.reading._done c.reading.invariant.counted pushed;
+      left = c.reading.invariant.left ∙ take_more (take name_of_word) c.args.count c.reading._done was c.push.new.self c.reading.words c.name.new.self x (omega arith) c.in_ok-name.ensures.reads pushed;
+      fits = each_more IsShownName was c.push.new.self x c.reading.invariant.fits c.in_ok-name.ensures.fits pushed;
+      counted = length_more was c.push.new.self x c.reading._done c.reading.invariant.counted pushed;
     }
