@@ -16,6 +16,8 @@ mod op;
 mod piece;
 mod reading;
 mod reply;
+#[cfg(test)]
+mod tests;
 mod unread;
 mod words;
 
