@@ -1,3 +1,3 @@
 mod Joins
 mod PathOrder
-mod PathTexts
+pub mod PathTexts

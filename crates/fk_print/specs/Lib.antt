@@ -4,5 +4,7 @@ pub mod EventText
 pub mod LineText
 pub mod OpText
 pub mod Pieces
+pub mod SummaryText
+pub mod WellFormed
 pub mod Words
 pub mod Worked

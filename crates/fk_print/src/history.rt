@@ -1,4 +1,4 @@
-ghost use Rattle.std.specs.Prelude.{◌≡◌, [], ◌∷◌, reverse, OnOk, OnErr};
+ghost use Rattle.std.specs.Prelude.{◌≡◌, [], ◌∷◌, reverse, IfOk, OnOk, OnErr};
 
 use crate::entry::Entry;
 use fk_base::NoMemory;
@@ -45,5 +45,15 @@ impl History {
         ensures { result.now ≡ reverse self.now }
     {
         self.items.as_slice()
+    }
+
+    pub fn copy(&self) -> Result<Self, NoMemory>
+        ensures { IfOk result (λ h. h ≡ self.now) }
+    {
+        let mut items = Vec::new(*self.items.allocator());
+        'copying: for item in &self.items {
+            items.push(item.copy()?)?;
+        }
+        Ok(History { items })
     }
 }

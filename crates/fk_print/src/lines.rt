@@ -1,4 +1,4 @@
-ghost use Rattle.std.specs.Prelude.{◌≡◌, [], ◌∷◌, ◌++◌, OnOk, OnErr};
+ghost use Rattle.std.specs.Prelude.{◌≡◌, [], ◌∷◌, ◌++◌, IfOk, OnOk, OnErr};
 
 use crate::line::Line;
 use fk_base::NoMemory;
@@ -41,5 +41,15 @@ impl Lines {
         ensures { result.now ≡ self.now }
     {
         self.items.as_slice()
+    }
+
+    pub fn copy(&self) -> Result<Self, NoMemory>
+        ensures { IfOk result (λ l. l ≡ self.now) }
+    {
+        let mut items = Vec::new(*self.items.allocator());
+        'copying: for item in &self.items {
+            items.push(item.copy()?)?;
+        }
+        Ok(Lines { items })
     }
 }

@@ -1,0 +1,13 @@
+pub mod Cut
+pub mod EndingFits
+pub mod OneHistory
+pub mod ReadAct
+pub mod ReadClient
+pub mod ReadEnding
+pub mod ReadEvent
+pub mod ReadHistory
+pub mod ReadLine
+pub mod ReadOp
+pub mod ReadReply
+pub mod ReadWords
+pub mod Reads
