@@ -1,27 +1,19 @@
 -- What a transaction did reads back from its words.
-use Rattle.std.proofs.Common.{◌≡◌, ℕ, ◌<◌, ◌≤◌, ◌^◌, ◌+◌, Bool, true, false, cond, List, [], ◌∷◌, ◌++◌, codes, length, map, pos, negsuc, Option, Some, None, refl, sym, ◌∙◌, ap, arith, append_assoc}
-use Prim.Native.Nat.{suc, zero}
-use lib.IntN.{ℤ}
+use Rattle.std.proofs.Common.{◌≡◌, ℕ, ◌≤◌, true, false, List, [], ◌∷◌, ◌++◌, length, Some, refl, ◌∙◌, ap, arith, append_assoc}
 use Rattle.std.specs.Prelude.{◌&&◌, nat_le}
 use Rattle.std.specs.List.{AllByRecursion, flat_map}
-use Rattle.std.specs.Fmt.{decimal, signed_decimal, digits}
-use Rattle.std.specs.Str.{bytes_eq}
 use Rattle.std.proofs.lemmas.Bool.Decides.{nat_tests}
-use Rattle.std.proofs.lemmas.List.{append-nil}
 use Rattle.std.proofs.lemmas.List.Concat.{flat_map-append}
-use Rattle.fk_base.specs.Path.{PathNames, path_text}
 use Rattle.fk_tree.specs.declared.request.Part.{Part}
 use Rattle.fk_tree.specs.declared.request.Part.TheVariants as part
-use Rattle.fk_print.specs.LineText.{act_words, close_word, flag_word, part_words}
-use Rattle.fk_print.specs.WellFormed.{IsAct, IsExpected, IsNumber, IsPart, IsPath}
+use Rattle.fk_print.specs.LineText.{act_words, part_words}
+use Rattle.fk_print.specs.WellFormed.{IsAct, IsPart}
 use Rattle.fk_print.specs.Words.{Text}
 use Rattle.fk_print.specs.declared.line.Act.{Act}
 use Rattle.fk_print.specs.declared.line.Act.TheVariants as act
 use Rattle.fk_read.specs.Cut.{words_in}
-use Rattle.fk_read.specs.Reads.{take, then_read}
 use Rattle.fk_read.specs.ReadAct.{act_of, take_onto, take_part}
-use Rattle.fk_read.specs.ReadWords.{expected_of, path_of_word}
-use Rattle.fk_read.proofs.WordsBack.{bare_decimal, below_back, is_bare, take_back, take_number, take_path, decimal_digits}
+use Rattle.fk_read.proofs.WordsBack.{take_number, take_path}
 use Rattle.fk_read.proofs.DataBack.{shown_data, take_data}
 use Rattle.fk_read.proofs.Lists.{onto_back, paths_back}
 use Rattle.fk_read.proofs.Expected.{shown_expected, take_expected}

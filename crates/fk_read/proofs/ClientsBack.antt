@@ -1,10 +1,9 @@
 -- What the name of a client reads back to.
-use Rattle.std.proofs.Common.{◌≡◌, ℕ, ◌<◌, ◌≤◌, ◌+◌, ◌-◌, ◌^◌, Bool, true, false, cond, List, [], ◌∷◌, ◌++◌, codes, length, get_or, Option, Some, None, refl, sym, ◌∙◌, ap, arith, nat_lt, drop, eqb, subst}
+use Rattle.std.proofs.Common.{◌≡◌, ℕ, ◌<◌, ◌+◌, ◌-◌, ◌^◌, Bool, true, false, List, [], ◌∷◌, ◌++◌, codes, length, get_or, Some, None, refl, sym, ◌∙◌, ap, arith, nat_lt, subst}
 use Prim.Native.Nat.{suc, zero}
 use Rattle.std.specs.Prelude.{◌&&◌, ◌||◌, ◌==◌, nat_le, not}
 use Rattle.std.specs.List.{list_all}
-use Rattle.std.specs.Str.{all_ascii_digits, bytes_eq}
-use Rattle.std.specs.Str.Parse.{digits_value, without_leading_plus}
+use Rattle.std.specs.Str.{bytes_eq}
 use Rattle.std.specs.Char.{is_ascii_digit}
 use Rattle.std.proofs.lemmas.Bool.{false≢true}
 use Rattle.std.proofs.lemmas.Bool.Decides.{nat_tests}
@@ -17,7 +16,7 @@ use Rattle.fk_print.specs.Words.{Text, client}
 use Rattle.fk_print.specs.WellFormed.{IsClient}
 use Rattle.fk_read.specs.Cut.{words_in}
 use Rattle.fk_read.specs.Reads.{take}
-use Rattle.fk_read.specs.ReadWords.{client_of, number_of, place_from, digits_below}
+use Rattle.fk_read.specs.ReadWords.{client_of, number_of, place_from}
 use Rattle.fk_read.proofs.WordsBack.{and_both, is_bare, take_back, words_in_bare}
 
 and_left : (a b : Bool) → (a && b) ≡ true → a ≡ true

@@ -1,9 +1,8 @@
 -- Pieces of a text.
-use Rattle.std.proofs.Common.{◌≡◌, ℕ, ◌<◌, ◌+◌, Bool, true, false, cond, List, [], ◌∷◌, ◌++◌, length, take, drop, get_or, refl, sym, ◌∙◌, ap, arith, add-one, append_assoc, length-drop, ◌-◌, ◌≤◌}
+use Rattle.std.proofs.Common.{◌≡◌, ℕ, ◌<◌, ◌+◌, Bool, false, List, [], ◌∷◌, length, take, drop, refl, arith, add-one, length-drop, ◌-◌}
 use Rattle.std.proofs.lemmas.List.{take_all}
 use Prim.Native.Nat.{suc, zero}
-use Rattle.std.specs.List.{slice_split, onto_first, AllByRecursion, flat_map}
-use Rattle.std.proofs.lemmas.Bool.{false≢true}
+use Rattle.std.specs.List.{slice_split, AllByRecursion}
 use Rattle.fk_read.specs.Cut.{IsEnd}
 
 -- the end of the rest, behind a byte that isn't cut at

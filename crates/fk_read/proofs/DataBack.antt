@@ -1,13 +1,12 @@
 -- What a data word reads back to.
-use Rattle.std.proofs.Common.{◌≡◌, ℕ, ◌<◌, ◌+◌, ◌*◌, ◌/◌, ◌%◌, Bool, true, false, cond, List, [], ◌∷◌, ◌++◌, codes, length, get_or, Some, refl, sym, ◌∙◌, ap, arith}
+use Rattle.std.proofs.Common.{◌≡◌, ℕ, ◌<◌, ◌+◌, ◌*◌, ◌/◌, ◌%◌, Bool, true, false, cond, List, [], ◌∷◌, ◌++◌, codes, length, get_or, Some, refl, ap, arith}
 use Prim.Native.Nat.{suc, zero}
-use Rattle.std.specs.Prelude.{◌&&◌, ◌==◌, nat_le, replicate}
+use Rattle.std.specs.Prelude.{◌&&◌, nat_le, replicate}
 use Rattle.std.specs.List.{list_all}
 use Rattle.std.specs.Result.{result_ok}
-use Rattle.std.proofs.lemmas.Bool.{false≢true}
 use Rattle.std.proofs.lemmas.Bool.Decides.{nat_tests}
 use Rattle.base64.specs.Engines.{standard}
-use Rattle.base64.specs.GeneralPurpose.{IsBytes, decode_of, encode_of}
+use Rattle.base64.specs.GeneralPurpose.{IsBytes, encode_of}
 use Rattle.base64.specs.Rfc4648.{encode_symbols, padding_len}
 use Rattle.base64.proofs.EngineFacts.{decode_of-encode_of}
 use Rattle.fk_print.specs.Words.{Text, data_word, is_plain}
@@ -15,7 +14,6 @@ use Rattle.fk_print.specs.WellFormed.{IsData}
 use Rattle.fk_read.specs.Cut.{words_in}
 use Rattle.fk_read.specs.Reads.{take}
 use Rattle.fk_read.specs.ReadWords.{data_of}
-use Rattle.fk_read.proofs.Plain.{plain_fits}
 use Rattle.fk_read.proofs.WordsBack.{and_both, and_left, and_right, bare_append, is_bare, take_back}
 use Rattle.fk_read.proofs.Shown.{bare_shown, is_shown}
 

@@ -1,13 +1,10 @@
 -- Each event reads back from the words of its line.
-use Rattle.std.proofs.Common.{◌≡◌, ℕ, Bool, true, false, List, [], ◌∷◌, ◌++◌, codes, Some, refl}
-use Rattle.std.specs.Prelude.{◌||◌}
+use Rattle.std.proofs.Common.{◌≡◌, true, List, Some, refl}
 use Rattle.std.specs.List.{flat_map}
-use Rattle.std.specs.Str.{bytes_eq}
 use Rattle.fk_base.specs.Path.{Name}
 use Rattle.fk_print.specs.ClientNames.{are_client_names}
 use Rattle.fk_print.specs.EventText.{event_words}
-use Rattle.fk_print.specs.WellFormed.{IsClient, IsEvent}
-use Rattle.fk_print.specs.Words.{client}
+use Rattle.fk_print.specs.WellFormed.{IsEvent}
 use Rattle.fk_print.specs.declared.event.Event.{Event}
 use Rattle.fk_print.specs.declared.event.Event.TheVariants as event
 use Rattle.fk_read.specs.Cut.{words_in}

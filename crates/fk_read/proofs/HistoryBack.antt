@@ -1,7 +1,7 @@
 -- A well-formed history reads back from its text.
-use Rattle.std.proofs.Common.{◌≡◌, ℕ, Bool, true, false, cond, List, [], ◌∷◌, ◌++◌, codes, Option, Some, None, refl, sym, ◌∙◌, ap, arith, append_assoc}
-use Rattle.std.specs.Prelude.{◌&&◌, ◌==◌, nat_le}
-use Rattle.std.specs.List.{AllByRecursion, flat_map, list_all, onto_first, slice_split}
+use Rattle.std.proofs.Common.{◌≡◌, ℕ, Bool, true, false, cond, List, [], ◌∷◌, ◌++◌, codes, Some, None, refl, sym, ◌∙◌, ap, arith, append_assoc}
+use Rattle.std.specs.Prelude.{nat_le}
+use Rattle.std.specs.List.{AllByRecursion, flat_map, onto_first, slice_split}
 use Rattle.std.specs.Option.{option_and_then, option_map}
 use Rattle.std.proofs.lemmas.Bool.Decides.{nat_tests}
 use Rattle.std.proofs.lemmas.List.{append-nil}
@@ -18,12 +18,11 @@ use Rattle.fk_print.specs.declared.line.Line.{Line}
 use Rattle.fk_print.specs.declared.line.Line.TheVariants as line
 use Rattle.fk_read.specs.Cut.{is_byte_at, lines_in, words_in}
 use Rattle.fk_read.specs.Reads.{then_word}
-use Rattle.fk_read.specs.ReadHistory.{closed, history_of, marked_line, nothing_read, read_line, read_lines, with_event, with_line, with_op}
-use Rattle.fk_read.specs.ReadLine.{line_of}
+use Rattle.fk_read.specs.ReadHistory.{closed, history_of, marked_line, nothing_read, read_lines, with_event}
 use Rattle.fk_read.specs.declared.reading.Reading.{Reading}
 use Rattle.fk_read.proofs.WordsBack.{and_both, and_left, and_right}
 use Rattle.fk_read.proofs.EventsBack.{event_back, event_shown}
-use Rattle.fk_read.proofs.LinesBack.{line_back, line_shown, line_words, mark_of}
+use Rattle.fk_read.proofs.LinesBack.{line_back, line_shown, line_words}
 use Rattle.fk_read.proofs.OpsBack.{op_back}
 use Rattle.fk_read.proofs.OpsShown.{op_shown}
 use Rattle.fk_read.proofs.Shown.{AreShown, is_shown}

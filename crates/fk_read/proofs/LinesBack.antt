@@ -1,27 +1,24 @@
 -- A public line reads back from its words.
-use Rattle.std.proofs.Common.{◌≡◌, ℕ, Bool, true, false, List, [], ◌∷◌, ◌++◌, codes, Option, Some, None, refl, ap}
+use Rattle.std.proofs.Common.{◌≡◌, true, List, [], ◌∷◌, ◌++◌, codes, Some, refl}
 use Rattle.std.specs.List.{flat_map}
 use Rattle.std.specs.Fmt.{decimal}
-use Rattle.std.specs.Option.{option_map}
-use Rattle.fk_base.specs.Path.{Name, PathNames, path_text}
+use Rattle.fk_base.specs.Path.{Name, path_text}
 use Rattle.fk_tree.specs.declared.change.Change.{Change}
 use Rattle.fk_tree.specs.declared.change.Change.TheVariants as change
 use Rattle.fk_tree.specs.declared.change.Kind.{Kind}
 use Rattle.fk_tree.specs.declared.change.Kind.TheVariants as kind
 use Rattle.fk_print.specs.ClientNames.{are_client_names}
 use Rattle.fk_print.specs.LineText.{act_words, change_word, kind_word, shown_words, verb_word}
-use Rattle.fk_print.specs.WellFormed.{IsClient, IsLine, IsNumber, IsPath, IsShown, IsSmall}
+use Rattle.fk_print.specs.WellFormed.{IsLine}
 use Rattle.fk_print.specs.Words.{Text, at, client}
 use Rattle.fk_print.specs.declared.line.Line.{Line}
 use Rattle.fk_print.specs.declared.line.Line.TheVariants as line
-use Rattle.fk_print.specs.declared.line.Printed.{Printed}
-use Rattle.fk_print.specs.declared.line.Shown.{Shown}
 use Rattle.fk_print.specs.declared.line.Verb.{Verb}
 use Rattle.fk_print.specs.declared.line.Verb.TheVariants as verb
 use Rattle.fk_read.specs.Cut.{words_in}
 use Rattle.fk_read.specs.Reads.{take}
-use Rattle.fk_read.specs.ReadLine.{change_of, kind_of, line_of, notice_of, reply_of, tx_of, verb_of}
-use Rattle.fk_read.proofs.WordsBack.{is_bare, take_back, take_number, take_path, take_small}
+use Rattle.fk_read.specs.ReadLine.{change_of, kind_of, line_of, verb_of}
+use Rattle.fk_read.proofs.WordsBack.{take_number, take_path, take_small}
 use Rattle.fk_read.proofs.ClientsBack.{take_client}
 use Rattle.fk_read.proofs.SpotsBack.{take_at}
 use Rattle.fk_read.proofs.ActsBack.{act_back, act_shown}

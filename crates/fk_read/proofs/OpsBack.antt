@@ -1,5 +1,5 @@
 -- Each operation reads back from the words of its line.
-use Rattle.std.proofs.Common.{◌≡◌, ℕ, true, List, [], ◌∷◌, ◌++◌, Some, refl}
+use Rattle.std.proofs.Common.{◌≡◌, true, List, Some, refl}
 use Rattle.std.specs.List.{flat_map}
 use Rattle.fk_base.specs.Path.{Name}
 use Rattle.fk_print.specs.ClientNames.{are_client_names}
@@ -8,7 +8,6 @@ use Rattle.fk_print.specs.WellFormed.{IsOp}
 use Rattle.fk_print.specs.declared.op.Op.{Op}
 use Rattle.fk_print.specs.declared.op.Op.TheVariants as op
 use Rattle.fk_read.specs.Cut.{words_in}
-use Rattle.fk_read.specs.Reads.{take}
 use Rattle.fk_read.specs.ReadOp.{op_of, word_of}
 use Rattle.fk_read.specs.ReadWords.{number_of}
 use Rattle.fk_read.proofs.WordsBack.{number_back, take_code, take_number, take_path, take_small, words_in_decimal}

@@ -1,7 +1,5 @@
 -- No word of an operation breaks its line.
-use Rattle.std.proofs.Common.{◌≡◌, ℕ, true, List, [], ◌∷◌, ◌++◌, refl, codes}
-use Rattle.std.specs.Prelude.{⊤}
-use Rattle.std.specs.List.{AllByRecursion}
+use Rattle.std.proofs.Common.{◌≡◌, true, List, refl}
 use Rattle.fk_base.specs.Path.{Name}
 use Rattle.fk_print.specs.ClientNames.{are_client_names}
 use Rattle.fk_print.specs.OpText.{op_words}

@@ -1,19 +1,19 @@
 -- What a command is answered reads back from its words.
-use Rattle.std.proofs.Common.{◌≡◌, ℕ, ◌<◌, ◌≤◌, ◌^◌, ◌+◌, Bool, true, false, cond, List, [], ◌∷◌, ◌++◌, codes, length, map, Option, Some, None, refl, sym, ◌∙◌, ap, arith, lit<}
-use Rattle.std.specs.Prelude.{◌&&◌, ◌||◌, ◌==◌, nat_le}
+use Rattle.std.proofs.Common.{◌≡◌, ℕ, Bool, true, false, cond, List, [], ◌∷◌, ◌++◌, codes, length, map, Some, None, refl, arith, lit<}
+use Rattle.std.specs.Prelude.{◌||◌, ◌==◌}
 use Rattle.std.specs.List.{AllByRecursion, flat_map}
 use Rattle.std.specs.Fmt.{decimal, signed_decimal, digits}
 use Rattle.std.specs.Str.{bytes_eq}
 use Rattle.std.proofs.lemmas.Bool.Decides.{nat_tests}
-use Rattle.fk_base.specs.Code.{name_of, number_of as code_number}
-use Rattle.fk_base.specs.Path.{Name, PathNames, path_text}
+use Rattle.fk_base.specs.Code.{number_of as code_number}
+use Rattle.fk_base.specs.Path.{PathNames, path_text}
 use Rattle.fk_base.specs.declared.code.Code.{Code}
 use Rattle.fk_base.specs.declared.code.Code.TheVariants as code
 use Rattle.fk_tree.specs.declared.node.Stat.{Stat}
 use Rattle.fk_tree.specs.declared.reply.PartReply.{PartReply}
 use Rattle.fk_tree.specs.declared.reply.PartReply.TheVariants as reply
 use Rattle.fk_print.specs.LineText.{part_reply_word, shown_words, stat_words}
-use Rattle.fk_print.specs.WellFormed.{IsNumber, IsPartReply, IsPath, IsPlace, IsShown, IsSmall, IsStat, is_of_tree}
+use Rattle.fk_print.specs.WellFormed.{IsNumber, IsPartReply, IsPlace, IsShown, IsSmall, IsStat, is_of_tree}
 use Rattle.fk_print.specs.Words.{Text, at, place_words}
 use Rattle.fk_print.specs.declared.line.Shown.{Shown}
 use Rattle.fk_print.specs.declared.line.Shown.TheVariants as shown
@@ -21,13 +21,13 @@ use Rattle.fk_print.specs.declared.line.Verb.{Verb}
 use Rattle.fk_print.specs.declared.line.Verb.TheVariants as verb
 use Rattle.fk_read.specs.Cut.{words_in}
 use Rattle.fk_read.specs.ReadAct.{take_onto}
-use Rattle.fk_read.specs.ReadReply.{coded, err_of, ok_by, refused_by, shown_of, stat_of, take_reply, has_places}
+use Rattle.fk_read.specs.ReadReply.{coded, refused_by, shown_of, stat_of, take_reply, has_places}
 use Rattle.fk_read.specs.ReadWords.{small_of}
-use Rattle.fk_read.proofs.WordsBack.{at_back, bare_at, bare_code, bare_decimal, bare_path, decimal_digits, is_bare, path_back, small_back, take_code, take_number, take_path, take_small, words_in_bare}
+use Rattle.fk_read.proofs.WordsBack.{at_back, bare_at, bare_decimal, bare_path, decimal_digits, path_back, small_back, take_code, take_number, take_path, take_small, words_in_bare}
 use Rattle.fk_read.proofs.DataBack.{shown_data, take_data}
 use Rattle.fk_read.proofs.Lists.{flat_map-map, names_back, onto_back}
-use Rattle.fk_read.proofs.Shown.{AreShown, bare_shown, is_shown, shown_at, shown_code, shown_decimal, shown_names, shown_path, shown_spot, wide}
-use Rattle.fk_read.proofs.SpotsBack.{digits_no_at, take_at, take_spot_back}
+use Rattle.fk_read.proofs.Shown.{AreShown, is_shown, shown_at, shown_code, shown_decimal, shown_names, shown_path, shown_spot, wide}
+use Rattle.fk_read.proofs.SpotsBack.{digits_no_at, take_at}
 
 -- the word of a path is no number
 path_no_small : (p : PathNames) → small_of (path_text p) ≡ None

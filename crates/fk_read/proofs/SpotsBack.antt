@@ -1,6 +1,6 @@
 -- A place and a number behind `@`, and the first word of an operation.
-use Rattle.std.proofs.Common.{◌≡◌, ℕ, ◌<◌, ◌≤◌, ◌^◌, Bool, true, false, cond, List, [], ◌∷◌, ◌++◌, codes, Option, Some, None, refl, sym, ◌∙◌, ap, arith}
-use Rattle.std.specs.Prelude.{◌&&◌, ◌==◌, nat_le}
+use Rattle.std.proofs.Common.{◌≡◌, ℕ, Bool, true, false, cond, List, [], ◌∷◌, ◌++◌, Some, None, refl, arith}
+use Rattle.std.specs.Prelude.{◌&&◌, ◌==◌}
 use Rattle.std.specs.List.{flat_map}
 use Rattle.std.specs.Fmt.{decimal}
 use Rattle.std.specs.Char.{is_ascii_digit}
@@ -15,7 +15,7 @@ use Rattle.fk_read.specs.Cut.{words_in}
 use Rattle.fk_read.specs.Reads.{take}
 use Rattle.fk_read.specs.ReadEnding.{take_spot}
 use Rattle.fk_read.specs.ReadOp.{word_of}
-use Rattle.fk_read.specs.ReadWords.{at_of, small_of}
+use Rattle.fk_read.specs.ReadWords.{at_of}
 use Rattle.fk_read.proofs.WordsBack.{at_back, bare_at, bare_decimal, decimal_digits, is_bare, small_back, take_back, words_in_bare}
 
 digit_no_at : (c : ℕ) (rest : Bool) → (is_ascii_digit c && rest) ≡ true → (c == 64) ≡ false

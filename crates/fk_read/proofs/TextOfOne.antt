@@ -1,5 +1,5 @@
 -- The one history of a text.
-use Rattle.std.proofs.Common.{◌≡◌, ◌≢◌, List, Option, Some, None, refl, sym, ◌∙◌, ap}
+use Rattle.std.proofs.Common.{◌≡◌, ◌≢◌, List, Some, None, sym, ◌∙◌, ap}
 use Rattle.fk_base.specs.Path.{Name}
 use Rattle.fk_print.specs.EntryText.{history_text}
 use Rattle.fk_print.specs.WellFormed.{IsWellFormed}

@@ -1,17 +1,16 @@
 -- What each word of a line reads back to.
-use Rattle.std.proofs.Common.{◌≡◌, ◌≢◌, ℕ, ◌<◌, ◌≤◌, ◌^◌, ◌+◌, ◌-◌, Bool, true, false, cond, List, [], ◌∷◌, ◌++◌, codes, length, get_or, Option, Some, None, refl, sym, ◌∙◌, ap, arith, nat_lt, drop, eqb}
+use Rattle.std.proofs.Common.{◌≡◌, ℕ, ◌<◌, ◌^◌, Bool, true, false, List, [], ◌∷◌, ◌++◌, length, Option, Some, refl, sym, arith, nat_lt}
 use Rattle.std.specs.Prelude.{◌&&◌, ◌==◌, nat_le, not}
-use Rattle.std.specs.Option.{option_map}
-use Rattle.std.specs.List.{slice_split, AllByRecursion, list_all}
+use Rattle.std.specs.List.{AllByRecursion, list_all}
 use Rattle.std.specs.Fmt.{decimal}
 use Rattle.std.specs.Char.{is_ascii_digit}
-use Rattle.std.specs.Str.{all_ascii_digits, bytes_eq, is_utf8}
-use Rattle.std.specs.Str.Parse.{digits_value, without_leading_plus, AllDigits}
+use Rattle.std.specs.Str.{all_ascii_digits}
+use Rattle.std.specs.Str.Parse.{digits_value, without_leading_plus}
 use Rattle.std.proofs.lemmas.Bool.{false≢true}
 use Rattle.std.proofs.lemmas.Bool.Decides.{nat_tests}
 use Rattle.std.proofs.lemmas.Fmt.{digits_decimal, digits_value-decimal, decimal_nonempty}
 use Rattle.std.proofs.lemmas.Str.Parse.{IsNumeralModel, numerals_by_value, tells_all_ascii_digits}
-use Rattle.fk_base.specs.Path.{Name, PathNames, are_names, is_name, has_barred, is_barred_byte, is_barred_pair, is_dots, names_text, path_of, path_text}
+use Rattle.fk_base.specs.Path.{Name, PathNames, are_names, is_name, has_barred, is_dots, names_text, path_text}
 use Rattle.fk_base.specs.Code.{name_of}
 use Rattle.fk_base.specs.declared.code.Code.{Code}
 use Rattle.fk_base.specs.declared.code.Code.TheVariants as code

@@ -1,5 +1,5 @@
 -- A text in pieces: lines between line feeds, words between spaces.
-use Rattle.std.specs.Prelude.{◌≡◌, ℕ, ◌==◌, ◌≤◌, ◌<◌, Bool, true, false, List, [], ◌∷◌, length, take, slice_index, Option, Some, None}
+use Rattle.std.specs.Prelude.{◌≡◌, ℕ, ◌==◌, ◌≤◌, ◌<◌, Bool, true, false, List, [], length, take, slice_index, Option, Some, None}
 use Rattle.std.specs.List.{slice_split, AllByRecursion}
 use denote.Ref.{Bor}
 

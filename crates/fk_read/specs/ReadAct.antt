@@ -1,5 +1,5 @@
 -- What the words of a transaction's act say.
-use Rattle.std.specs.Prelude.{ℕ, ◌+◌, nat_le, Bool, true, false, if◌then◌else◌, ◌&&◌, ◌||◌, List, [], ◌∷◌, ◌++◌, codes, Option, Some, None}
+use Rattle.std.specs.Prelude.{ℕ, nat_le, Bool, if◌then◌else◌, ◌&&◌, ◌||◌, List, [], ◌∷◌, ◌++◌, codes, Option, Some, None}
 use Prim.Native.Nat.{suc, zero}
 use Rattle.std.specs.Str.{bytes_eq}
 use Rattle.fk_tree.specs.declared.request.Part.{Part}

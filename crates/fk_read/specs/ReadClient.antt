@@ -1,6 +1,5 @@
 -- What the words of a client's operation say, behind its name.
-use Rattle.std.specs.Prelude.{ℕ, Bool, true, false, if◌then◌else◌, List, [], ◌∷◌, codes, Option, Some, None}
-use Rattle.std.specs.Option.{option_map, option_and_then}
+use Rattle.std.specs.Prelude.{ℕ, if◌then◌else◌, List, codes, Option, Some}
 use Rattle.std.specs.Str.{bytes_eq}
 use Rattle.fk_print.specs.Words.{Text}
 use Rattle.fk_print.specs.declared.op.Op.{Op}

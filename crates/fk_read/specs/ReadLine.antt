@@ -1,5 +1,5 @@
 -- What the words of a public line say.
-use Rattle.std.specs.Prelude.{ℕ, Bool, true, false, if◌then◌else◌, List, [], ◌∷◌, codes, Option, Some, None}
+use Rattle.std.specs.Prelude.{if◌then◌else◌, List, codes, Option, Some, None}
 use Rattle.std.specs.Option.{option_map}
 use Rattle.std.specs.Str.{bytes_eq}
 use Rattle.fk_base.specs.Path.{Name}
@@ -12,7 +12,7 @@ use Rattle.fk_print.specs.declared.line.Line.{Line}
 use Rattle.fk_print.specs.declared.line.Line.TheVariants as line
 use Rattle.fk_print.specs.declared.line.Verb.{Verb}
 use Rattle.fk_print.specs.declared.line.Verb.TheVariants as verb
-use Rattle.fk_read.specs.Reads.{take, then_read, then_word}
+use Rattle.fk_read.specs.Reads.{take, then_read}
 use Rattle.fk_read.specs.ReadAct.{act_of}
 use Rattle.fk_read.specs.ReadReply.{shown_of}
 use Rattle.fk_read.specs.ReadWords.{at_of, client_of, number_of, path_of_word, small_of}

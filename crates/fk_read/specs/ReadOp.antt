@@ -1,7 +1,7 @@
 -- What the words of an operation say. Only the words that tell two operations apart are looked at:
 -- whether the others are right, the text of what was read shows.
-use Rattle.std.specs.Prelude.{ℕ, Bool, true, false, if◌then◌else◌, List, [], ◌∷◌, codes, Option, Some, None}
-use Rattle.std.specs.Option.{option_map, option_and_then}
+use Rattle.std.specs.Prelude.{ℕ, if◌then◌else◌, List, [], ◌∷◌, codes, Option, Some, None}
+use Rattle.std.specs.Option.{option_and_then}
 use Rattle.std.specs.Str.{bytes_eq}
 use Rattle.fk_base.specs.Path.{Name}
 use Rattle.fk_base.specs.declared.code.Code.{Code}
@@ -11,7 +11,7 @@ use Rattle.fk_print.specs.declared.op.Op.TheVariants as op
 use Rattle.fk_print.specs.declared.op.Word.{Word}
 use Rattle.fk_print.specs.declared.op.Word.TheVariants as word
 use Rattle.fk_read.specs.Reads.{option_or_else, take, then_read, then_word}
-use Rattle.fk_read.specs.ReadWords.{at_of, client_of, code_of, number_of, path_of_word, small_of}
+use Rattle.fk_read.specs.ReadWords.{client_of, code_of, number_of, path_of_word}
 use Rattle.fk_read.specs.ReadEnding.{ending_of, take_spot}
 use Rattle.fk_read.specs.ReadClient.{client_op}
 use Rattle.fk_read.specs.declared.ending.Ending.{Ending}

@@ -1,4 +1,4 @@
-use Rattle.std.proofs.Common.{◌≡◌, ◌-◌, [], length}
+use Rattle.std.proofs.Common.{◌≡◌, ◌-◌, length}
 use Rattle.std.specs.List.{AllByRecursion}
 use Rattle.fk_print.specs.WellFormed.{IsShownName}
 use Rattle.fk_read.specs.ReadAct.{take_onto}
