@@ -2,6 +2,7 @@
 //! Each law is the clause of a function without a body.
 #![tactic(auto)]
 
+mod disjoint_edits;
 mod locked_paths;
 mod node_owners;
 mod path_editors;
@@ -10,6 +11,7 @@ mod rising_lists;
 mod touched_paths;
 mod whole_trees;
 
+pub use disjoint_edits::{apart_commute, fits_after_others};
 pub use locked_paths::{
     edits_are_locked, fits_by_its_edits, gone_is_owned, locks_read_what_is_locked,
     reads_are_edited, reads_are_locked,
