@@ -3,6 +3,7 @@ pub mod Counting
 pub mod Growing
 pub mod Holding
 pub mod Lists
+pub mod Matching
 pub mod Members
 pub mod Owning
 pub mod Parting
