@@ -15,6 +15,7 @@ use Rattle.fk_tree.specs.declared.applied.Applied.{Applied}
 use Rattle.fk_tree.specs.declared.node.Node.{Node}
 use Rattle.fk_tree.specs.declared.request.Request.{Request}
 use Rattle.fk_tree.specs.declared.request.Request.TheVariants as request
+use Rattle.fk_tree.specs.Locks.{lock_paths}
 use Rattle.fk_tree.proofs.Order.{by_test, path_total, path_exact, child_not_root, same_path_is, same_name_self}
 use Rattle.fk_tree.proofs.Rising.{same_rising}
 use Rattle.fk_tree.proofs.Views.{has_children, children_of}
@@ -22,13 +23,12 @@ use Rattle.fk_law_tree.specs.Fitting.{GoneIs, Fits, FitsWhatIsShown}
 use Rattle.fk_law_tree.specs.Following.{AppliedByPath, AppliedIsAfter, tree_after, IsShown, TreesAreViews, ViewsAreTrees}
 use Rattle.fk_law_tree.specs.Locking.{owned_final, unlocked}
 use Rattle.fk_law_tree.specs.WellFormed.{is_unowned, IsWellFormed, KeepsWellFormed, OwnersHaveNoChild, UnlockedIsMissing, LockedIsEnough}
+use Rattle.fk_law_tree.specs.Reading.{AgreeOn, reads}
 use Rattle.fk_law_tree.proofs.Applying.{some_view, free_view, IsApplied, request_applied}
 use Rattle.fk_law_tree.proofs.Counting.{only_its_edits}
 use Rattle.fk_law_tree.proofs.Owning.{owned_has, owned_rises}
 use Rattle.fk_law_tree.proofs.Passing.{passed_open}
 use Rattle.fk_law_tree.proofs.Whole.{is_free, IsWhole}
-use Rattle.fk_tree.specs.Locks.{lock_paths}
-use Rattle.fk_law_tree.specs.Reading.{AgreeOn, reads}
 use Rattle.fk_law_tree.proofs.Reading.{at_head, check_reads, fill_reads}
 use Rattle.fk_law_tree.proofs.Holding.{reads_are_locked}
 use Rattle.fk_law_tree.proofs.Members.{has_append}

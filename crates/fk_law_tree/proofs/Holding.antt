@@ -21,11 +21,11 @@ use Rattle.fk_tree.proofs.Order.{by_test, same_path_is, same_path_self}
 use Rattle.fk_law_tree.specs.Locking.{Within, EditsAreLocked, owned_final, ReadsAreLocked, ReadsAreEdited, ListsOwned, GoneIsOwned, FitsByItsEdits, LocksReadLocked}
 use Rattle.fk_law_tree.specs.Owners.{is_owned}
 use Rattle.fk_law_tree.specs.Reading.{final_paths, create_reads, part_reads, parts_reads, reads, AgreeOn}
+use Rattle.fk_law_tree.specs.Fitting.{GoneIs}
 use Rattle.fk_law_tree.proofs.Lists.{ordered_has}
 use Rattle.fk_law_tree.proofs.Members.{or_left, or_right, has_append, edit_paths_append}
 use Rattle.fk_law_tree.proofs.Passing.{final_parent, final_below_root, passed_open, placed_none, CreatePasses, passed_create}
 use Rattle.fk_law_tree.proofs.Reading.{at_head, check_reads, fill_reads}
-use Rattle.fk_law_tree.specs.Fitting.{GoneIs}
 
 -- LISTS
 either : (a b c : Bool) → (a ≡ true → c ≡ true) → (b ≡ true → c ≡ true) → (a || b) ≡ true → c ≡ true

@@ -1,11 +1,13 @@
-mod Applying
-mod Counting
-mod Growing
-mod Holding
-mod Lists
-mod Members
-mod Owning
-mod Passing
-mod Reading
-mod Touching
-mod Whole
+pub mod Applying
+pub mod Counting
+pub mod Growing
+pub mod Holding
+pub mod Lists
+pub mod Matching
+pub mod Members
+pub mod Owning
+pub mod Parting
+pub mod Passing
+pub mod Reading
+pub mod Touching
+pub mod Whole

@@ -5,9 +5,9 @@ use Rattle.fk_base.specs.Path.{PathNames, same_path}
 use Rattle.fk_tree.specs.declared.edit.Edit.{Edit}
 use Rattle.fk_tree.specs.Sorted.{has_path}
 use Rattle.fk_tree.specs.Touch.{edit_paths}
-use Rattle.fk_tree.proofs.Order.{by_test, same_path_is, same_path_self}
 use Rattle.fk_tree.specs.Edit.{edit, edited}
 use Rattle.fk_tree.specs.declared.node.Node.{Node}
+use Rattle.fk_tree.proofs.Order.{by_test, same_path_is, same_path_self}
 
 -- the same both ways
 pub flipped : (p q : PathNames) → same_path p q ≡ same_path q p

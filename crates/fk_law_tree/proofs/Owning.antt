@@ -21,9 +21,9 @@ use Rattle.fk_tree.specs.declared.request.Part.{Part}
 use Rattle.fk_tree.specs.declared.request.Part.TheVariants as part
 use Rattle.fk_tree.specs.declared.request.Request.{Request}
 use Rattle.fk_tree.specs.declared.request.Request.TheVariants as request
+use Rattle.fk_tree.specs.View.{View}
 use Rattle.fk_tree.proofs.Order.{by_test, and_left, and_right, tested, tested_left, tested_right, same_path_is}
 use Rattle.fk_law_tree.specs.Owners.{is_owned, KeepsForeignOwners, OwnedAreTheOwners}
-use Rattle.fk_tree.specs.View.{View}
 use Rattle.fk_law_tree.specs.Fitting.{GoneIs, CloseLeavesNone}
 use Rattle.fk_law_tree.proofs.Members.{edited_append}
 

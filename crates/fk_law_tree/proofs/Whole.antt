@@ -31,7 +31,7 @@ free_some None e = e
 free_some (Some b) e = refl
 
 pub has_parents : (t : Nodes) → IsWhole t → HasParents t
-has_parents t w p n s = free_some (get t p) (w.parents p n s)
+has_parents t w p n s = assumption (w.parents p n s, free_some (get t p) (w.parents p n s))
 
 free_map : (f : Bare → Bare) → ((b : Bare) → (f b).owner ≡ b.owner) → (o : Option Bare) → is_free (map_some f o) ≡ is_free o
 free_map f h None = refl

@@ -7,11 +7,12 @@ use Rattle.fk_tree.specs.Tree.{Tree}
 use Rattle.fk_tree.specs.Edit.{closes, after}
 use Rattle.fk_tree.specs.Fill.{fill_name, fill_version, fill_made}
 use Rattle.fk_tree.specs.Check.{check}
-use Rattle.fk_tree.specs.Apply.{IsFilled}
+use Rattle.fk_tree.specs.Apply.{IsFilled, reply_of}
 use Rattle.fk_tree.specs.declared.applied.Applied.{Applied}
 use Rattle.fk_tree.specs.declared.request.Request.{Request}
 use Rattle.fk_tree.specs.declared.request.Request.TheVariants as request
 use Rattle.fk_law_tree.specs.Owners.{is_owned}
+use Rattle.fk_law_tree.specs.Reading.{reads, AgreeOn}
 
 -- a close removes the paths whose node its session owns, in path order; no other request removes any
 abbrev pub GoneIs : View → ℕ → Request → List PathNames → Type 0
@@ -30,6 +31,24 @@ pub record Fits (v : View) (a : Applied) : Type 0 where
 -- what fits what a tree shows is what is filled on the tree
 abbrev pub FitsWhatIsShown : Type 0
 FitsWhatIsShown = (t : Tree) (a : Applied) → (Fits (look t) a → IsFilled t a) × (IsFilled t a → Fits (look t) a)
+
+-- a request of the same transaction, moment and place in its session
+pub record IsSame (a b : Applied) : Type 0 where
+  pub tx : a.tx ≡ b.tx
+  pub moment : a.moment ≡ b.moment
+  pub session : a.session ≡ b.session
+  pub k : a.k ≡ b.k
+  pub request : a.request ≡ b.request
+
+-- a request fits a view in one way
+abbrev pub OneFits : Type 0
+OneFits = (v : View) (a b : Applied) → Fits v a → Fits v b → IsSame a b → a ≡ b
+
+-- a request that fits two views with the same nodes where it reads has the same reply on both
+abbrev pub SameReply : Type 0
+SameReply =
+    (v w : View) (a b : Applied) → Fits v a → Fits w b → a.session ≡ b.session → a.request ≡ b.request → AgreeOn v w (reads v a.session a.request)
+    → reply_of a ≡ reply_of b
 
 -- after a close that fits, its session owns no node
 abbrev pub CloseLeavesNone : Type 0

@@ -1,3 +1,4 @@
+pub mod Disjoint
 pub mod Editors
 pub mod Fitting
 pub mod Following

@@ -8,9 +8,9 @@ use Rattle.fk_tree.specs.Apply.{apply, IsFilled}
 use Rattle.fk_tree.specs.declared.applied.Applied.{Applied}
 use Rattle.fk_tree.specs.declared.node.Node.{Node}
 use Rattle.fk_tree.specs.declared.request.Request.{Request}
-use Rattle.fk_law_tree.specs.Locking.{unlocked}
 use Rattle.fk_tree.specs.Check.{check}
 use Rattle.fk_tree.specs.Locks.{lock_paths}
+use Rattle.fk_law_tree.specs.Locking.{unlocked}
 use Rattle.fk_law_tree.specs.Reading.{AgreeOn, SameFill}
 
 -- a node is there, and it has no owner

@@ -1,4 +1,3 @@
-ghost use Rattle.fk_law_tree.specs.Fitting.{FitsWhatIsShown};
 ghost use Rattle.fk_law_tree.specs.Following.{AppliedByPath, AppliedIsAfter, TreesAreViews, ViewsAreTrees};
 ghost use Rattle.fk_law_tree.specs.WellFormed.{KeepsWellFormed, LockedIsEnough, OwnersHaveNoChild, UnlockedIsMissing};
 
@@ -26,11 +25,6 @@ pub fn unlocked_is_missing()
 /// A law: what is locked for a request decides its check and what is filled.
 pub fn locked_is_enough()
     ensures { LockedIsEnough }
-{}
-
-/// A law: what fits what a tree shows is what is filled on the tree.
-pub fn fits_what_is_shown()
-    ensures { FitsWhatIsShown }
 {}
 
 /// A law: the tree after applied requests is well formed and shows what their edits show, where each

@@ -2,7 +2,7 @@ pub mod Deletes
 mod Keeping
 mod Listing
 pub mod Order
-pub mod Parents
+mod Parents
 pub mod Rising
 mod Samples
 mod Sorting
