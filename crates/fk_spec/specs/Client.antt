@@ -7,7 +7,6 @@ use Rattle.fk_tree.specs.Ask.{path_asked}
 use Rattle.fk_tree.specs.Watch.{kind_asked}
 use Rattle.fk_tree.specs.declared.change.Kind.{Kind}
 use Rattle.fk_tree.specs.declared.node.Node.{Node}
-use Rattle.fk_tree.specs.declared.request.Query.{Query}
 use Rattle.fk_tree.specs.declared.request.Query.TheVariants as query
 use Rattle.fk_print.specs.declared.entry.Entry.{Entry}
 use Rattle.fk_print.specs.declared.line.Verb.{Verb}
@@ -16,7 +15,7 @@ use Rattle.fk_print.specs.declared.op.Op.{Op}
 use Rattle.fk_print.specs.declared.op.Op.TheVariants as op
 use Rattle.fk_spec.specs.Plan.{Plan, Ask, Want, Unfit, Writes, Reads, asked}
 use Rattle.fk_spec.specs.Shown.{seen_by}
-use Rattle.fk_spec.specs.Start.{sends_of, when}
+use Rattle.fk_spec.specs.Start.{sends_of}
 use Rattle.fk_spec.specs.Settling.{Outcome, Committed, Refused, Passed, mark_of}
 use Rattle.fk_spec.specs.Stored.{record_of, stamp_of}
 use Rattle.fk_spec.specs.Watches.{set_watches, set_number, given_of, last_sweep, published_epoch}

@@ -1,27 +1,17 @@
 -- A close removes the ephemeral nodes of its session. Each expected entry is copied from the printed history.
-use Rattle.std.specs.Prelude.{◌≡◌, ℕ, pos, negsuc, Bool, true, false, List, [], ◌∷◌, ◌++◌, codes}
+use Rattle.std.specs.Prelude.{◌≡◌, true, false, List, [], ◌∷◌, codes}
 use Rattle.fk_base.specs.declared.code.Code.TheVariants as code
-use Rattle.fk_tree.specs.declared.change.Change.TheVariants as change
-use Rattle.fk_tree.specs.declared.change.Kind.TheVariants as kind
-use Rattle.fk_tree.specs.declared.reply.PartReply.TheVariants as part_reply
-use Rattle.fk_tree.specs.declared.request.Part.TheVariants as part
 use Rattle.fk_print.specs.declared.entry.Entry.{Entry}
 use Rattle.fk_print.specs.declared.event.Event.{Event}
 use Rattle.fk_print.specs.declared.event.Event.TheVariants as event
 use Rattle.fk_print.specs.declared.line.Act.TheVariants as act
-use Rattle.fk_print.specs.declared.line.Line.{Line}
 use Rattle.fk_print.specs.declared.line.Line.TheVariants as line
 use Rattle.fk_print.specs.declared.line.Shown.TheVariants as shown
 use Rattle.fk_print.specs.declared.line.Verb.TheVariants as verb
-use Rattle.fk_print.specs.declared.op.Op.{Op}
 use Rattle.fk_print.specs.declared.op.Op.TheVariants as op
-use Rattle.fk_print.specs.declared.op.Word.TheVariants as word
 use Rattle.fk_script.specs.declared.command.Command.TheVariants as command
-use Rattle.fk_script.specs.declared.command.PartCommand.TheVariants as part_command
 use Rattle.fk_script.specs.declared.deployment.Deployment.{Deployment}
-use Rattle.fk_script.specs.declared.deployment.Turn.TheVariants as turn
-use Rattle.fk_spec.specs.Plan.{Plan, plan_of}
-use Rattle.fk_spec.specs.Next.{next_entry}
+use Rattle.fk_spec.specs.Plan.{plan_of}
 use Rattle.fk_spec.specs.Scenarios.{entry, played}
 
 abbrev pub deployed : Deployment
@@ -32,10 +22,10 @@ events = ((event.Clock 11) ∷ (event.Client 1) ∷ (event.Deliver 1) ∷ (event
 
 -- the newest first
 abbrev pub entries : List Entry
-entries = entry (event.Client 2) (op.LookOk 2 1 3 ) ((line.Reply 2 1 verb.Ls (shown.Listed 3 [])) ∷ [])
+entries = entry (event.Client 2) (op.LookOk 2 1 3) ((line.Reply 2 1 verb.Ls (shown.Listed 3 [])) ∷ [])
     ∷ entry (event.Client 2) (op.Read 2 1 3) []
     ∷ entry (event.Client 1) (op.Local 1 5) ((line.Reply 1 5 verb.Get (shown.Refused code.SessionExpired 3 0)) ∷ [])
-    ∷ entry (event.Client 1) (op.LookOk 1 4 3 ) ((line.Reply 1 4 verb.Close (shown.Done 3)) ∷ [])
+    ∷ entry (event.Client 1) (op.LookOk 1 4 3) ((line.Reply 1 4 verb.Close (shown.Done 3)) ∷ [])
     ∷ entry (event.Client 1) (op.TakeDone 1 4 3) []
     ∷ entry (event.Step 7) (op.AckOk 7) []
     ∷ entry (event.Step 7) (op.DoneOk 7 3) []
@@ -58,7 +48,7 @@ entries = entry (event.Client 2) (op.LookOk 2 1 3 ) ((line.Reply 2 1 verb.Ls (sh
     ∷ entry (event.Step 6) (op.SessionNew 6) []
     ∷ entry (event.Deliver 1) (op.Follower 6 1 4) []
     ∷ entry (event.Client 1) (op.Send 1 4 4) []
-    ∷ entry (event.Client 1) (op.LookOk 1 3 2 ) ((line.Reply 1 3 verb.Create (shown.Created 2 ((codes "f") ∷ []))) ∷ [])
+    ∷ entry (event.Client 1) (op.LookOk 1 3 2) ((line.Reply 1 3 verb.Create (shown.Created 2 ((codes "f") ∷ []))) ∷ [])
     ∷ entry (event.Client 1) (op.TakeDone 1 3 2) []
     ∷ entry (event.Step 5) (op.AckOk 5) []
     ∷ entry (event.Step 5) (op.DoneOk 5 2) []
@@ -78,7 +68,7 @@ entries = entry (event.Client 2) (op.LookOk 2 1 3 ) ((line.Reply 2 1 verb.Ls (sh
     ∷ entry (event.Step 4) (op.SessionNew 4) []
     ∷ entry (event.Deliver 1) (op.Follower 4 1 3) []
     ∷ entry (event.Client 1) (op.Send 1 3 3) []
-    ∷ entry (event.Client 1) (op.LookOk 1 2 1 ) ((line.Reply 1 2 verb.Create (shown.Refused code.NoChildrenForEphemerals 1 0)) ∷ [])
+    ∷ entry (event.Client 1) (op.LookOk 1 2 1) ((line.Reply 1 2 verb.Create (shown.Refused code.NoChildrenForEphemerals 1 0)) ∷ [])
     ∷ entry (event.Client 1) (op.TakeRefused 1 2) []
     ∷ entry (event.Step 3) (op.AckOk 3) []
     ∷ entry (event.Step 3) (op.Reply 3 1 2) []
@@ -88,7 +78,7 @@ entries = entry (event.Client 2) (op.LookOk 2 1 3 ) ((line.Reply 2 1 verb.Ls (sh
     ∷ entry (event.Step 3) (op.SessionNew 3) []
     ∷ entry (event.Deliver 1) (op.Follower 3 1 2) []
     ∷ entry (event.Client 1) (op.Send 1 2 2) []
-    ∷ entry (event.Client 1) (op.LookOk 1 1 1 ) ((line.Reply 1 1 verb.Create (shown.Created 1 ((codes "e") ∷ []))) ∷ [])
+    ∷ entry (event.Client 1) (op.LookOk 1 1 1) ((line.Reply 1 1 verb.Create (shown.Created 1 ((codes "e") ∷ []))) ∷ [])
     ∷ entry (event.Client 1) (op.TakeDone 1 1 1) []
     ∷ entry (event.Step 2) (op.AckOk 2) []
     ∷ entry (event.Step 2) (op.DoneOk 2 1) []

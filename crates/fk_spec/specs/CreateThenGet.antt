@@ -1,27 +1,16 @@
 -- A client creates a node and reads it. Each expected entry is copied from the printed history.
-use Rattle.std.specs.Prelude.{◌≡◌, ℕ, pos, negsuc, Bool, true, false, List, [], ◌∷◌, ◌++◌, codes}
-use Rattle.fk_base.specs.declared.code.Code.TheVariants as code
-use Rattle.fk_tree.specs.declared.change.Change.TheVariants as change
-use Rattle.fk_tree.specs.declared.change.Kind.TheVariants as kind
-use Rattle.fk_tree.specs.declared.reply.PartReply.TheVariants as part_reply
-use Rattle.fk_tree.specs.declared.request.Part.TheVariants as part
+use Rattle.std.specs.Prelude.{◌≡◌, true, false, List, [], ◌∷◌, codes}
 use Rattle.fk_print.specs.declared.entry.Entry.{Entry}
 use Rattle.fk_print.specs.declared.event.Event.{Event}
 use Rattle.fk_print.specs.declared.event.Event.TheVariants as event
 use Rattle.fk_print.specs.declared.line.Act.TheVariants as act
-use Rattle.fk_print.specs.declared.line.Line.{Line}
 use Rattle.fk_print.specs.declared.line.Line.TheVariants as line
 use Rattle.fk_print.specs.declared.line.Shown.TheVariants as shown
 use Rattle.fk_print.specs.declared.line.Verb.TheVariants as verb
-use Rattle.fk_print.specs.declared.op.Op.{Op}
 use Rattle.fk_print.specs.declared.op.Op.TheVariants as op
-use Rattle.fk_print.specs.declared.op.Word.TheVariants as word
 use Rattle.fk_script.specs.declared.command.Command.TheVariants as command
-use Rattle.fk_script.specs.declared.command.PartCommand.TheVariants as part_command
 use Rattle.fk_script.specs.declared.deployment.Deployment.{Deployment}
-use Rattle.fk_script.specs.declared.deployment.Turn.TheVariants as turn
-use Rattle.fk_spec.specs.Plan.{Plan, plan_of}
-use Rattle.fk_spec.specs.Next.{next_entry}
+use Rattle.fk_spec.specs.Plan.{plan_of}
 use Rattle.fk_spec.specs.Scenarios.{entry, played}
 
 abbrev pub deployed : Deployment
@@ -32,9 +21,9 @@ events = ((event.Clock 11) ∷ (event.Client 1) ∷ (event.Deliver 1) ∷ (event
 
 -- the newest first
 abbrev pub entries : List Entry
-entries = entry (event.Client 1) (op.LookOk 1 2 1 ) ((line.Reply 1 2 verb.Get (shown.Got 1 (codes "hi") (record { czxid = 1; mzxid = 1; pzxid = 1; ctime = 11; mtime = 11; version = 0; cversion = 0; aversion = 0; owner = 0; length = 2; children = 0 }))) ∷ [])
+entries = entry (event.Client 1) (op.LookOk 1 2 1) ((line.Reply 1 2 verb.Get (shown.Got 1 (codes "hi") (record { czxid = 1; mzxid = 1; pzxid = 1; ctime = 11; mtime = 11; version = 0; cversion = 0; aversion = 0; owner = 0; length = 2; children = 0 }))) ∷ [])
     ∷ entry (event.Client 1) (op.Read 1 2 1) []
-    ∷ entry (event.Client 1) (op.LookOk 1 1 1 ) ((line.Reply 1 1 verb.Create (shown.Created 1 ((codes "x") ∷ []))) ∷ [])
+    ∷ entry (event.Client 1) (op.LookOk 1 1 1) ((line.Reply 1 1 verb.Create (shown.Created 1 ((codes "x") ∷ []))) ∷ [])
     ∷ entry (event.Client 1) (op.TakeDone 1 1 1) []
     ∷ entry (event.Step 2) (op.AckOk 2) []
     ∷ entry (event.Step 2) (op.DoneOk 2 1) []

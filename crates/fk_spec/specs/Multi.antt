@@ -1,27 +1,20 @@
 -- Requests of several parts: made, refused as a whole, and deleted. Each expected entry is copied from the printed history.
-use Rattle.std.specs.Prelude.{◌≡◌, ℕ, pos, negsuc, Bool, true, false, List, [], ◌∷◌, ◌++◌, codes}
+use Rattle.std.specs.Prelude.{◌≡◌, negsuc, true, false, List, [], ◌∷◌, codes}
 use Rattle.fk_base.specs.declared.code.Code.TheVariants as code
-use Rattle.fk_tree.specs.declared.change.Change.TheVariants as change
-use Rattle.fk_tree.specs.declared.change.Kind.TheVariants as kind
 use Rattle.fk_tree.specs.declared.reply.PartReply.TheVariants as part_reply
 use Rattle.fk_tree.specs.declared.request.Part.TheVariants as part
 use Rattle.fk_print.specs.declared.entry.Entry.{Entry}
 use Rattle.fk_print.specs.declared.event.Event.{Event}
 use Rattle.fk_print.specs.declared.event.Event.TheVariants as event
 use Rattle.fk_print.specs.declared.line.Act.TheVariants as act
-use Rattle.fk_print.specs.declared.line.Line.{Line}
 use Rattle.fk_print.specs.declared.line.Line.TheVariants as line
 use Rattle.fk_print.specs.declared.line.Shown.TheVariants as shown
 use Rattle.fk_print.specs.declared.line.Verb.TheVariants as verb
-use Rattle.fk_print.specs.declared.op.Op.{Op}
 use Rattle.fk_print.specs.declared.op.Op.TheVariants as op
-use Rattle.fk_print.specs.declared.op.Word.TheVariants as word
 use Rattle.fk_script.specs.declared.command.Command.TheVariants as command
 use Rattle.fk_script.specs.declared.command.PartCommand.TheVariants as part_command
 use Rattle.fk_script.specs.declared.deployment.Deployment.{Deployment}
-use Rattle.fk_script.specs.declared.deployment.Turn.TheVariants as turn
-use Rattle.fk_spec.specs.Plan.{Plan, plan_of}
-use Rattle.fk_spec.specs.Next.{next_entry}
+use Rattle.fk_spec.specs.Plan.{plan_of}
 use Rattle.fk_spec.specs.Scenarios.{entry, played}
 
 abbrev pub deployed : Deployment
@@ -32,7 +25,7 @@ events = ((event.Clock 11) ∷ (event.Client 1) ∷ (event.Deliver 1) ∷ (event
 
 -- the newest first
 abbrev pub entries : List Entry
-entries = entry (event.Client 1) (op.LookOk 1 5 2 ) ((line.Reply 1 5 verb.Multi (shown.Multi 2 (part_reply.Deleted ∷ part_reply.Deleted ∷ []))) ∷ [])
+entries = entry (event.Client 1) (op.LookOk 1 5 2) ((line.Reply 1 5 verb.Multi (shown.Multi 2 (part_reply.Deleted ∷ part_reply.Deleted ∷ []))) ∷ [])
     ∷ entry (event.Client 1) (op.TakeDone 1 3 2) []
     ∷ entry (event.Step 5) (op.AckOk 5) []
     ∷ entry (event.Step 5) (op.DoneOk 5 2) []
@@ -54,9 +47,9 @@ entries = entry (event.Client 1) (op.LookOk 1 5 2 ) ((line.Reply 1 5 verb.Multi 
     ∷ entry (event.Step 4) (op.SessionNew 4) []
     ∷ entry (event.Deliver 1) (op.Follower 4 1 3) []
     ∷ entry (event.Client 1) (op.Send 1 5 3) []
-    ∷ entry (event.Client 1) (op.LookOk 1 4 1 ) ((line.Reply 1 4 verb.Get (shown.Got 1 (codes "2") (record { czxid = 1; mzxid = 1; pzxid = 1; ctime = 11; mtime = 11; version = 1; cversion = 1; aversion = 0; owner = 0; length = 1; children = 1 }))) ∷ [])
+    ∷ entry (event.Client 1) (op.LookOk 1 4 1) ((line.Reply 1 4 verb.Get (shown.Got 1 (codes "2") (record { czxid = 1; mzxid = 1; pzxid = 1; ctime = 11; mtime = 11; version = 1; cversion = 1; aversion = 0; owner = 0; length = 1; children = 1 }))) ∷ [])
     ∷ entry (event.Client 1) (op.Read 1 4 1) []
-    ∷ entry (event.Client 1) (op.LookOk 1 3 1 ) ((line.Reply 1 3 verb.Multi (shown.Refused code.NoNode 1 2)) ∷ [])
+    ∷ entry (event.Client 1) (op.LookOk 1 3 1) ((line.Reply 1 3 verb.Multi (shown.Refused code.NoNode 1 2)) ∷ [])
     ∷ entry (event.Client 1) (op.TakeRefused 1 2) []
     ∷ entry (event.Step 3) (op.AckOk 3) []
     ∷ entry (event.Step 3) (op.Reply 3 1 2) []
@@ -67,9 +60,9 @@ entries = entry (event.Client 1) (op.LookOk 1 5 2 ) ((line.Reply 1 5 verb.Multi 
     ∷ entry (event.Step 3) (op.SessionNew 3) []
     ∷ entry (event.Deliver 1) (op.Follower 3 1 2) []
     ∷ entry (event.Client 1) (op.Send 1 3 2) []
-    ∷ entry (event.Client 1) (op.LookOk 1 2 1 ) ((line.Reply 1 2 verb.Get (shown.Got 1 (codes "2") (record { czxid = 1; mzxid = 1; pzxid = 1; ctime = 11; mtime = 11; version = 1; cversion = 1; aversion = 0; owner = 0; length = 1; children = 1 }))) ∷ [])
+    ∷ entry (event.Client 1) (op.LookOk 1 2 1) ((line.Reply 1 2 verb.Get (shown.Got 1 (codes "2") (record { czxid = 1; mzxid = 1; pzxid = 1; ctime = 11; mtime = 11; version = 1; cversion = 1; aversion = 0; owner = 0; length = 1; children = 1 }))) ∷ [])
     ∷ entry (event.Client 1) (op.Read 1 2 1) []
-    ∷ entry (event.Client 1) (op.LookOk 1 1 1 ) ((line.Reply 1 1 verb.Multi (shown.Multi 1 ((part_reply.Created ((codes "a") ∷ [])) ∷ (part_reply.Version 1) ∷ (part_reply.Created ((codes "a") ∷ (codes "b") ∷ [])) ∷ []))) ∷ [])
+    ∷ entry (event.Client 1) (op.LookOk 1 1 1) ((line.Reply 1 1 verb.Multi (shown.Multi 1 ((part_reply.Created ((codes "a") ∷ [])) ∷ (part_reply.Version 1) ∷ (part_reply.Created ((codes "a") ∷ (codes "b") ∷ [])) ∷ []))) ∷ [])
     ∷ entry (event.Client 1) (op.TakeDone 1 1 1) []
     ∷ entry (event.Step 2) (op.AckOk 2) []
     ∷ entry (event.Step 2) (op.DoneOk 2 1) []

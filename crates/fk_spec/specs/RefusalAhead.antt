@@ -1,27 +1,18 @@
 -- A refusal speaks of a commit that isn't published yet: its client looks until it is. Each expected entry is copied from the printed history.
-use Rattle.std.specs.Prelude.{◌≡◌, ℕ, pos, negsuc, Bool, true, false, List, [], ◌∷◌, ◌++◌, codes}
+use Rattle.std.specs.Prelude.{◌≡◌, true, false, List, [], ◌∷◌, codes}
 use Rattle.fk_base.specs.declared.code.Code.TheVariants as code
-use Rattle.fk_tree.specs.declared.change.Change.TheVariants as change
-use Rattle.fk_tree.specs.declared.change.Kind.TheVariants as kind
-use Rattle.fk_tree.specs.declared.reply.PartReply.TheVariants as part_reply
-use Rattle.fk_tree.specs.declared.request.Part.TheVariants as part
 use Rattle.fk_print.specs.declared.entry.Entry.{Entry}
 use Rattle.fk_print.specs.declared.event.Event.{Event}
 use Rattle.fk_print.specs.declared.event.Event.TheVariants as event
 use Rattle.fk_print.specs.declared.line.Act.TheVariants as act
-use Rattle.fk_print.specs.declared.line.Line.{Line}
 use Rattle.fk_print.specs.declared.line.Line.TheVariants as line
 use Rattle.fk_print.specs.declared.line.Shown.TheVariants as shown
 use Rattle.fk_print.specs.declared.line.Verb.TheVariants as verb
-use Rattle.fk_print.specs.declared.op.Op.{Op}
 use Rattle.fk_print.specs.declared.op.Op.TheVariants as op
-use Rattle.fk_print.specs.declared.op.Word.TheVariants as word
 use Rattle.fk_script.specs.declared.command.Command.TheVariants as command
-use Rattle.fk_script.specs.declared.command.PartCommand.TheVariants as part_command
 use Rattle.fk_script.specs.declared.deployment.Deployment.{Deployment}
 use Rattle.fk_script.specs.declared.deployment.Turn.TheVariants as turn
-use Rattle.fk_spec.specs.Plan.{Plan, plan_of}
-use Rattle.fk_spec.specs.Next.{next_entry}
+use Rattle.fk_spec.specs.Plan.{plan_of}
 use Rattle.fk_spec.specs.Scenarios.{entry, played}
 
 abbrev pub deployed : Deployment
@@ -32,8 +23,8 @@ events = ((event.Client 1) ∷ (event.Deliver 1) ∷ (event.Step 1) ∷ (event.S
 
 -- the newest first
 abbrev pub entries : List Entry
-entries = entry (event.Client 2) (op.LookOk 2 1 1 ) ((line.Reply 2 1 verb.Create (shown.Refused code.NodeExists 1 0)) ∷ [])
-    ∷ entry (event.Client 1) (op.LookOk 1 1 1 ) ((line.Reply 1 1 verb.Create (shown.Created 1 ((codes "x") ∷ []))) ∷ [])
+entries = entry (event.Client 2) (op.LookOk 2 1 1) ((line.Reply 2 1 verb.Create (shown.Refused code.NodeExists 1 0)) ∷ [])
+    ∷ entry (event.Client 1) (op.LookOk 1 1 1) ((line.Reply 1 1 verb.Create (shown.Created 1 ((codes "x") ∷ []))) ∷ [])
     ∷ entry (event.Client 1) (op.TakeDone 1 1 1) []
     ∷ entry (event.Step 3) (op.AckOk 3) []
     ∷ entry (event.Step 3) (op.DoneOk 3 1) []
@@ -46,7 +37,7 @@ entries = entry (event.Client 2) (op.LookOk 2 1 1 ) ((line.Reply 2 1 verb.Create
     ∷ entry (event.Step 3) (op.CommitSettled 3 1 1) []
     ∷ entry event.Leader (op.Leader 3 1) []
     ∷ entry (event.Clock 11) (op.Clock 11) []
-    ∷ entry (event.Client 2) (op.LookBehind 2 1 0 ) []
+    ∷ entry (event.Client 2) (op.LookBehind 2 1 0) []
     ∷ entry (event.Client 2) (op.TakeRefused 2 1) []
     ∷ entry (event.Step 2) (op.AckOk 2) []
     ∷ entry (event.Step 2) (op.Reply 2 2 1) []

@@ -1,5 +1,5 @@
 -- What a client prints: its replies, and what it is told of its watches and its session.
-use Rattle.std.specs.Prelude.{ℕ, ◌+◌, Bool, if◌then◌else◌, List, [], ◌∷◌, ◌++◌, Option, Some, None}
+use Rattle.std.specs.Prelude.{ℕ, ◌+◌, if◌then◌else◌, List, [], ◌∷◌, ◌++◌, Option, Some, None}
 use Rattle.fk_base.specs.declared.code.Code.TheVariants as code
 use Rattle.fk_tree.specs.Apply.{reply_of}
 use Rattle.fk_tree.specs.Ask.{answer_from}
@@ -23,7 +23,7 @@ use Rattle.fk_spec.specs.Locks.{Loss}
 use Rattle.fk_spec.specs.Settling.{Committed, Refused, Passed}
 use Rattle.fk_spec.specs.Stored.{committed_as}
 use Rattle.fk_spec.specs.Watches.{Firing, firing_of}
-use Rattle.fk_spec.specs.Lanes.{Message, inbox_of}
+use Rattle.fk_spec.specs.Lanes.{inbox_of}
 use Rattle.fk_spec.specs.Client.{Client, Reading, Sent, Result, Open, Settled, Plain, Expired, client_of, acted, contains, number_read, ready_first, registers}
 
 abbrev pub shown_reply : ℕ → Reply → Shown
