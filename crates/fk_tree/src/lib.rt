@@ -21,6 +21,8 @@ mod reply;
 mod request;
 mod sequence;
 mod slots;
+#[cfg(test)]
+mod tests;
 mod touch_list;
 mod tree;
 mod writes;
