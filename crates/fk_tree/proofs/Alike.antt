@@ -1,11 +1,8 @@
 -- Neither a check of a part nor what is filled of it reads a transaction or a moment.
-use Rattle.std.proofs.Common.{◌≡◌, ℕ, ℤ, Bool, true, false, cond, eqb, List, [], ◌∷◌, Option, Some, None, refl, sym, ◌∙◌, ap}
+use Rattle.std.proofs.Common.{◌≡◌, ℕ, ℤ, Bool, true, false, cond, List, [], ◌∷◌, Option, Some, None, refl, sym, ◌∙◌, ap}
 use Rattle.std.specs.Prelude.{is_some}
-use Rattle.fk_base.specs.Path.{Name, PathNames, same_path, parent, is_root}
-use Rattle.fk_base.specs.declared.code.Code.{Code}
-use Rattle.fk_base.specs.declared.code.Code.TheVariants as code
+use Rattle.fk_base.specs.Path.{PathNames, same_path}
 use Rattle.fk_tree.specs.declared.node.Node.{Node}
-use Rattle.fk_tree.specs.declared.applied.Made.{Made}
 use Rattle.fk_tree.specs.declared.edit.Edit.{Edit}
 use Rattle.fk_tree.specs.declared.edit.What.{What}
 use Rattle.fk_tree.specs.declared.edit.What.TheVariants as what
@@ -14,9 +11,9 @@ use Rattle.fk_tree.specs.declared.request.Part.TheVariants as part
 use Rattle.fk_tree.specs.Sorted.{has_name, add_name, drop_name}
 use Rattle.fk_tree.specs.Tree.{map_some, up}
 use Rattle.fk_tree.specs.View.{View}
-use Rattle.fk_tree.specs.Edit.{edit, edited, part_edits, after_edits}
-use Rattle.fk_tree.specs.Fill.{fill_part, after_part, version_of}
-use Rattle.fk_tree.specs.Check.{check_part, check_create, check_under, check_set, check_delete, is_version, has_names}
+use Rattle.fk_tree.specs.Edit.{edit, edited}
+use Rattle.fk_tree.specs.Fill.{fill_part, version_of}
+use Rattle.fk_tree.specs.Check.{check_delete}
 
 -- a node without its transactions and moments
 abbrev pub plain : Node → Node

@@ -1,5 +1,5 @@
 -- Touches put one after another are those of the list, each pair once.
-use Rattle.std.proofs.Common.{◌≡◌, ℕ, suc, ◌<◌, Bool, true, false, cond, ◌&&◌, ◌||◌, List, [], ◌∷◌, ◌++◌, length, drop, get_or, refl, sym, ◌∙◌, ap, subst, append_assoc, drop-cons, arith}
+use Rattle.std.proofs.Common.{◌≡◌, ℕ, suc, ◌<◌, Bool, true, false, cond, ◌||◌, List, [], ◌∷◌, ◌++◌, length, drop, get_or, refl, sym, ◌∙◌, ap, subst, append_assoc, drop-cons}
 use Rattle.std.proofs.lemmas.Bool.{false≢true}
 use Rattle.std.proofs.lemmas.List.{append-nil}
 use Rattle.fk_base.specs.Path.{PathNames, same_path}
@@ -11,7 +11,6 @@ use Rattle.fk_tree.specs.declared.request.Part.{Part}
 use Rattle.fk_tree.specs.Touch.{same_change, same_touch, others, once, with_parent_touched, deletes_touches, part_touches, parts_touches}
 use Rattle.fk_tree.specs.Touching.{is_there, put_one, all_put}
 use Rattle.fk_tree.proofs.Order.{by_test, and_left, and_right, same_path_is, same_path_self}
-use Rattle.fk_tree.proofs.Looking.{same_flip}
 
 same_change_is : (a b : Change) → same_change a b ≡ true → a ≡ b
 same_change_is change.Created change.Created e = refl

@@ -17,7 +17,7 @@ use Rattle.fk_tree.specs.declared.applied.Applied.{Applied}
 use Rattle.fk_tree.specs.declared.request.Request.TheVariants as request
 use Rattle.fk_tree.specs.Rows.{Row, row_node, has_row, have_rows, changed_by, changes_by, changes_have_rows, written, names_of, is_of, is_noted, is_drop, are_drops, is_edit_noted, are_noted, AreEdited, AreNoted, AreRising, KeepSame, KeepsNotes}
 use Rattle.fk_tree.proofs.Notes.{Sets}
-use Rattle.fk_tree.proofs.Order.{by_test, same_path_is, same_path_self, name_total, name_exact, child_apart, child_parts}
+use Rattle.fk_tree.proofs.Order.{by_test, same_path_is, name_total, name_exact, child_apart, child_parts}
 use Rattle.fk_tree.proofs.Rising.{rises_without}
 
 -- EDITING

@@ -1,6 +1,5 @@
 -- The parts of a multi, one after another.
-use Rattle.std.proofs.Common.{◌≡◌, ℕ, suc, ◌+◌, ◌<◌, Bool, List, [], ◌∷◌, ◌++◌, Option, Some, None, length, drop, get_or, refl, sym, ◌∙◌, ap, subst, append_assoc, drop-cons, arith}
-use Rattle.fk_base.specs.Path.{PathNames}
+use Rattle.std.proofs.Common.{◌≡◌, ℕ, suc, ◌+◌, ◌<◌, List, [], ◌∷◌, ◌++◌, Some, None, length, drop, get_or, refl, sym, ◌∙◌, ap, append_assoc, drop-cons, arith}
 use Rattle.fk_base.specs.declared.code.Code.{Code}
 use Rattle.fk_tree.specs.declared.applied.Made.{Made}
 use Rattle.fk_tree.specs.declared.edit.Edit.{Edit}
@@ -8,7 +7,7 @@ use Rattle.fk_tree.specs.declared.request.Part.{Part}
 use Rattle.fk_tree.specs.View.{View}
 use Rattle.fk_tree.specs.Edit.{after_edits, part_edits}
 use Rattle.fk_tree.specs.Fill.{after_part, fill_part, fill_parts}
-use Rattle.fk_tree.specs.Check.{Refusal, at_place, check_part, check_parts, or_else}
+use Rattle.fk_tree.specs.Check.{at_place, check_part, check_parts, or_else}
 use Rattle.fk_tree.proofs.Keeping.{edited_both}
 
 -- a view after some edits, and then after a part

@@ -1,10 +1,8 @@
 -- A tree after a request: what it shows, and that it stays whole.
-use Rattle.std.proofs.Common.{◌≡◌, ◌<◌, ℕ, zero, suc, Bool, true, false, cond, eqb, List, [], ◌∷◌, ◌++◌, Option, Some, None, refl, sym, ◌∙◌, ap, subst, arith}
+use Rattle.std.proofs.Common.{◌≡◌, ◌<◌, ℕ, suc, true, false, eqb, List, [], ◌∷◌, Option, None, refl, sym, ◌∙◌, ap, subst}
 use Rattle.std.specs.Prelude.{is_some}
 use Rattle.std.specs.FinMap.{get}
-use Rattle.std.proofs.lemmas.Bool.{false≢true}
-use Rattle.std.proofs.lemmas.Bool.Decides.{nat_tests}
-use Rattle.fk_base.specs.Path.{Name, PathNames, parent, is_root}
+use Rattle.fk_base.specs.Path.{PathNames, parent, is_root}
 use Rattle.fk_tree.specs.declared.node.Node.{Node}
 use Rattle.fk_tree.specs.declared.applied.Applied.{Applied}
 use Rattle.fk_tree.specs.declared.applied.Made.{Made}
@@ -13,16 +11,16 @@ use Rattle.fk_tree.specs.declared.request.Part.TheVariants as part
 use Rattle.fk_tree.specs.declared.request.Request.{Request}
 use Rattle.fk_tree.specs.declared.request.Request.TheVariants as request
 use Rattle.fk_tree.specs.Sorted.{has_path}
-use Rattle.fk_tree.specs.Tree.{Bare, Nodes, Tree, node_view}
+use Rattle.fk_tree.specs.Tree.{Nodes, Tree, node_view}
 use Rattle.fk_tree.specs.View.{View, look}
-use Rattle.fk_tree.specs.Edit.{closes, edited, effects, effects_of, create_edits, deletes_edits, delete_edits, part_edits, parts_edits, owner_for}
+use Rattle.fk_tree.specs.Edit.{edited, effects_of, create_edits, deletes_edits, delete_edits, part_edits, parts_edits, owner_for}
 use Rattle.fk_tree.specs.Fill.{fill, fill_part, fill_parts, after_part, final_path, made_of, owned}
-use Rattle.fk_tree.specs.Check.{check, check_create, check_part, check_parts, check_open, at_place}
-use Rattle.fk_tree.specs.Apply.{apply_nodes, apply_part, apply_parts, create_node, delete_node, delete_nodes, IsFilled}
-use Rattle.fk_tree.specs.Rows.{HasParents, is_free}
-use Rattle.fk_tree.proofs.Alike.{AreAlike, edited_alike, some_alike, owner_alike, delete_alike, fill_alike, owner_in}
+use Rattle.fk_tree.specs.Check.{check_create, check_part, check_parts, check_open, at_place}
+use Rattle.fk_tree.specs.Apply.{apply_nodes, apply_part, apply_parts, create_node, delete_node, delete_nodes}
+use Rattle.fk_tree.specs.Rows.{HasParents}
+use Rattle.fk_tree.proofs.Alike.{AreAlike, edited_alike, some_alike, owner_alike, delete_alike, owner_in}
 use Rattle.fk_tree.proofs.Keeping.{edited_both}
-use Rattle.fk_tree.proofs.Passing.{Passes, some_view, free_view, passed_open, placed_none, first_none, second_none, passed_create, passed_delete, final_parent, final_child}
+use Rattle.fk_tree.proofs.Passing.{Passes, some_view, free_view, placed_none, first_none, second_none, passed_create, passed_delete, final_parent, final_child}
 use Rattle.fk_tree.proofs.Views.{set_view, create_view}
 use Rattle.fk_tree.proofs.Deletes.{delete_view}
 use Rattle.fk_tree.proofs.Parents.{set_keeps, create_keeps, delete_keeps, deletes_keep}

@@ -1,13 +1,12 @@
 -- The tree as it starts.
-use Rattle.std.proofs.Common.{◌≡◌, ◌<◌, ℕ, Bool, true, false, cond, List, [], ◌∷◌, ◌++◌, Option, Some, None, refl, sym, ◌∙◌, ap, subst, arith}
+use Rattle.std.proofs.Common.{◌≡◌, ◌<◌, ℕ, Bool, true, false, cond, List, [], ◌∷◌, ◌++◌, Some, None, refl, sym, ◌∙◌, ap, subst, arith}
 use Rattle.std.specs.Prelude.{is_some}
 use Rattle.std.specs.FinMap.{get, get-empty, get-insert, empty}
 use Rattle.std.proofs.lemmas.Bool.{false≢true}
 use Rattle.std.proofs.lemmas.Bool.Decides.{nat_tests}
 use Rattle.fk_base.specs.Path.{Name, PathNames, path_cmp, same_path}
-use Rattle.fk_tree.specs.declared.node.Node.{Node}
 use Rattle.fk_tree.specs.Tree.{with_names, node_view, start_tree, root_node}
-use Rattle.fk_tree.specs.Rows.{Row, row_node, is_of, IsKept}
+use Rattle.fk_tree.specs.Rows.{Row, is_of, IsKept}
 use Rattle.fk_tree.proofs.Notes.{Sets}
 use Rattle.fk_tree.proofs.Order.{path_total, child_not_root}
 use Rattle.fk_tree.proofs.Views.{children_of}

@@ -1,15 +1,14 @@
 -- The tree that rows keep: what it shows, and what a request makes of it.
-use Rattle.std.proofs.Common.{◌≡◌, ◌<◌, ℕ, Bool, true, false, cond, List, [], ◌∷◌, Option, Some, None, refl, sym, ◌∙◌, ap, subst}
+use Rattle.std.proofs.Common.{◌≡◌, ◌<◌, ℕ, true, false, cond, List, ◌∷◌, Option, Some, None, refl, sym, ◌∙◌, ap}
 use Rattle.std.specs.FinMap.{get}
-use Rattle.fk_base.specs.Path.{Name, PathNames, name_cmp, path_cmp, parent}
+use Rattle.fk_base.specs.Path.{PathNames, name_cmp, path_cmp, parent}
 use Rattle.fk_tree.specs.declared.applied.Applied.{Applied}
-use Rattle.fk_tree.specs.declared.node.Node.{Node}
 use Rattle.fk_tree.specs.declared.request.Request.{Request}
 use Rattle.fk_tree.specs.declared.request.Request.TheVariants as request
 use Rattle.fk_tree.specs.Sorted.{rises}
-use Rattle.fk_tree.specs.Tree.{Bare, Nodes, Tree, children, with_names, map_some, node_view}
-use Rattle.fk_tree.specs.View.{View, is_in, look}
-use Rattle.fk_tree.specs.Edit.{closes, edited, effects, effects_of}
+use Rattle.fk_tree.specs.Tree.{Bare, Tree, children, with_names, map_some}
+use Rattle.fk_tree.specs.View.{is_in, look}
+use Rattle.fk_tree.specs.Edit.{closes, edited, effects}
 use Rattle.fk_tree.specs.Fill.{fill, fill_gone, fill_made, fill_name, fill_version, final_path, made_of}
 use Rattle.fk_tree.specs.Check.{check, check_create, check_open}
 use Rattle.fk_base.specs.declared.code.Code.TheVariants as code
@@ -17,7 +16,7 @@ use Rattle.std.proofs.lemmas.Bool.{false≢true}
 use Rattle.fk_tree.proofs.Order.{by_test}
 use Rattle.fk_tree.specs.declared.applied.Made.{Made}
 use Rattle.fk_tree.specs.Apply.{apply, apply_nodes, IsFilled}
-use Rattle.fk_tree.specs.Rows.{Row, row_node, nodes_of, tree_of, names_of, shown, gone_from, AreEdited, AreNoted, AreRising, HasParents, IsKept, KeepSame, IsOfChild, is_of}
+use Rattle.fk_tree.specs.Rows.{Row, nodes_of, tree_of, names_of, shown, gone_from, AreEdited, AreNoted, AreRising, IsKept, KeepSame, IsOfChild, is_of}
 use Rattle.fk_tree.proofs.Notes.{Sets, those_are}
 use Rattle.fk_tree.proofs.Owning.{owned_is}
 use Rattle.fk_tree.proofs.Passing.{Passes, passed_open, passed_create, placed_none}

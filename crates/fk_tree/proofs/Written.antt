@@ -5,7 +5,6 @@ use Rattle.std.proofs.lemmas.Bool.{false≢true}
 use Rattle.fk_base.specs.Path.{Name, PathNames, path_cmp, same_path}
 use Rattle.fk_tree.specs.declared.node.Node.{Node}
 use Rattle.fk_tree.specs.declared.edit.Edit.{Edit}
-use Rattle.fk_tree.specs.declared.slots.Changed.{Changed}
 use Rattle.fk_tree.specs.Sorted.{has_path}
 use Rattle.fk_tree.specs.Tree.{Bare, Nodes, children, with_names, map_some, node_view}
 use Rattle.fk_tree.specs.Edit.{edit, edited}

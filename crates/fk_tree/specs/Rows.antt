@@ -20,7 +20,7 @@ use Rattle.fk_tree.specs.Tree.{Bare, Nodes, Tree, node_view}
 use Rattle.fk_tree.specs.declared.request.Request.{Request}
 use Rattle.fk_tree.specs.declared.request.Request.TheVariants as request
 use Rattle.fk_tree.specs.View.{View}
-use Rattle.fk_tree.specs.Edit.{edit, edited}
+use Rattle.fk_tree.specs.Edit.{edited}
 
 -- a node without the names of its children
 abbrev pub unnamed : Node → Bare

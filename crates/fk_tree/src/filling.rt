@@ -70,10 +70,8 @@ pub fn gone(
 {
     match request {
         Request::Close { .. } => owned(alloc, owners, slots, session),
-        Request::Create { .. }
-        | Request::Set { .. }
-        | Request::Delete { .. }
-        | Request::Multi(_) => Ok(Paths::new(alloc)),
+        Request::Create { .. } | Request::Set { .. } | Request::Delete { .. } | Request::Multi(_) =>
+            Ok(Paths::new(alloc)),
     }
 }
 

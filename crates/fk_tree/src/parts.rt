@@ -9,8 +9,8 @@ ghost use Rattle.fk_tree.specs.Rows.{shown};
 
 use crate::applied::Made;
 use crate::codes::{create_code, delete_code, set_code};
-use crate::effect_list::push_part;
 use crate::edit::Edit;
+use crate::effect_list::push_part;
 use crate::fault::CheckFault;
 use crate::lists::{Edits, Mades};
 use crate::node::Node;
@@ -102,12 +102,7 @@ fn code_under_parent(slots: &Slots, edits: &[Edit], path: &Path) -> Result<Optio
 }
 
 // what a part comes to behind these edits
-fn part_made(
-    alloc: Global,
-    slots: &Slots,
-    edits: &[Edit],
-    part: &Part,
-) -> Result<Made, NoMemory>
+fn part_made(alloc: Global, slots: &Slots, edits: &[Edit], part: &Part) -> Result<Made, NoMemory>
     ensures { (closed : ℕ → Bool) → IfOk result (λ m. m ≡ fill_part (after_edits (shown slots.now.entries closed) 0 0 edits.now) part.now) }
 {
     match part {

@@ -12,7 +12,11 @@ pub fn final_path(path: &Path, seq: bool, made: u32) -> Result<Path, NoMemory>
     requires { is_root path.now ≡ false }
     ensures { IfOk result (λ p. p ≡ final_path path.now seq made) }
 {
-    if seq { numbered(path, made) } else { path.copy() }
+    if seq {
+        numbered(path, made)
+    } else {
+        path.copy()
+    }
 }
 
 // with ten digits of the count behind its last name

@@ -30,9 +30,7 @@ fn touch_all(touches: &mut Touches, applied: &Applied) -> Result<(), NoMemory>
         Request::Set { path, .. } => touch(touches, path, Change::Changed),
         Request::Delete { path, .. } => touch_both(touches, path, Change::Deleted),
         Request::Close { .. } => touch_deleted(touches, applied.gone.as_slice()),
-        Request::Multi(parts) => {
-            touch_parts(touches, parts.as_slice(), applied.made.as_slice())
-        }
+        Request::Multi(parts) => { touch_parts(touches, parts.as_slice(), applied.made.as_slice()) }
     }
 }
 

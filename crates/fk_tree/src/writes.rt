@@ -13,7 +13,9 @@ use crate::node::Node;
 use crate::node_edit::{edit_node, fresh_node};
 use crate::owners::{Owners, forget, note};
 use crate::request::Request;
-use crate::slots::{Changed, Slots, add_name, add_slot, drop_name, node_at, put, remove, set_bytes};
+use crate::slots::{
+    Changed, Slots, add_name, add_slot, drop_name, node_at, put, remove, set_bytes,
+};
 use fk_base::{Bytes, NoMemory, Path};
 use std::alloc::Global;
 

@@ -1,4 +1,4 @@
-use Rattle.std.proofs.Common.{◌++◌, sym, ◌∙◌, ap}
+use Rattle.std.proofs.Common.{◌++◌, ◌∙◌, ap}
 use Rattle.std.proofs.Common.{drop, ◌+◌}
 use Rattle.fk_tree.specs.Edit.{after_edits}
 use Rattle.fk_tree.specs.Fill.{fill_part, fill_parts}

@@ -1,4 +1,4 @@
-use Rattle.std.proofs.Common.{◌≡◌, true, subst, sym}
+use Rattle.std.proofs.Common.{◌≡◌, true, subst}
 use Rattle.fk_base.specs.Path.{name_cmp}
 use Rattle.fk_tree.specs.Edit.{with_child}
 use Rattle.fk_tree.specs.Rows.{names_of}

@@ -1,4 +1,4 @@
-use Rattle.std.proofs.Common.{◌≡◌, Some, sym, ◌∙◌}
+use Rattle.std.proofs.Common.{Some}
 use Rattle.fk_tree.proofs.Looking.{updated_node, kept_row, looked_some}
 use Rattle.fk_tree.proofs.slots.put.Goals as goal
 

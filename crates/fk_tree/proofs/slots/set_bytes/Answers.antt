@@ -1,9 +1,5 @@
-use Rattle.std.proofs.Common.{◌≡◌, true, subst, sym}
-use Rattle.fk_base.specs.Path.{name_cmp}
 use Rattle.fk_tree.specs.Edit.{with_bytes}
-use Rattle.fk_tree.specs.Rows.{names_of}
-use Rattle.fk_tree.specs.Sorted.{rises}
-use Rattle.fk_tree.proofs.Looking.{slot_is, one_changed, none_changed, same_written, rows_written, ok_so, err_so}
+use Rattle.fk_tree.proofs.Looking.{one_changed, none_changed, same_written, ok_so, err_so}
 use Rattle.fk_tree.proofs.slots.set_bytes.Goals as goal
 
 pub returns-in-None-clause-ok : goal.returns-in-None-clause-ok

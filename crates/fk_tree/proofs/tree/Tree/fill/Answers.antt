@@ -1,4 +1,4 @@
-use Rattle.std.proofs.Common.{◌∙◌, ap, subst, sym}
+use Rattle.std.proofs.Common.{◌∙◌, ap}
 use Rattle.fk_tree.specs.Fill.{fill}
 use Rattle.fk_tree.specs.View.{is_in}
 use Rattle.fk_tree.proofs.Whole.{filled, of_child}
