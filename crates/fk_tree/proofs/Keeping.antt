@@ -1,165 +1,39 @@
--- Rows: what is found, added, edited and written there, and the tree that they keep.
-use Rattle.std.proofs.Common.{◌≡◌, ℕ, suc, ◌+◌, ◌<◌, Bool, true, false, cond, ◌||◌, List, [], ◌∷◌, ◌++◌, Option, Some, None, length, take, drop, get_or, set, refl, sym, ◌∙◌, ap, subst, arith, drop-cons}
-use Rattle.std.specs.Prelude.{is_some}
+-- Rows: what is edited, added and written there.
+use Rattle.std.proofs.Common.{◌≡◌, ℕ, zero, suc, ◌+◌, ◌<◌, Bool, true, false, cond, eqb, ◌||◌, List, [], ◌∷◌, ◌++◌, Option, Some, None, length, take, drop, get_or, refl, sym, ◌∙◌, ap, subst, arith, drop-cons}
+use Rattle.std.specs.Prelude.{Result, Ok, Err, OnOk, OnErr}
+use Rattle.std.proofs.lemmas.Bool.Decides.{nat_tests}
 use Rattle.std.proofs.lemmas.Bool.{false≢true}
 use Rattle.std.proofs.lemmas.List.{take_more}
-use Rattle.fk_base.specs.Path.{PathNames, same_path}
+use Rattle.fk_base.specs.Path.{Name, PathNames, name_cmp, same_path, parent, last_name, is_root}
 use Rattle.fk_tree.specs.declared.node.Node.{Node}
 use Rattle.fk_tree.specs.declared.edit.Edit.{Edit}
-use Rattle.fk_tree.specs.declared.rows.Row.{Row}
-use Rattle.fk_tree.specs.Edit.{edit, edited}
-use Rattle.fk_tree.specs.Rows.{row_node, has_row, row_from, have_rows, rows_have_rows, edited_row, edited_rows, written}
-use Rattle.fk_tree.proofs.Order.{same_path_is, same_path_self}
-
--- SEEKING
-pub node_step : (p : PathNames) (rs : List Row) (i : ℕ) (d : Row) → i < length rs → same_path p (get_or rs i d).path ≡ false → row_node p (drop i rs) ≡ row_node p (drop (suc i) rs)
-node_step p rs i d l e = rw (drop-cons rs i d l, e) refl
-
-pub node_here : (p : PathNames) (rs : List Row) (i : ℕ) (d : Row) → i < length rs → same_path p (get_or rs i d).path ≡ true → row_node p (drop i rs) ≡ (get_or rs i d).node
-node_here p rs i d l e = rw (drop-cons rs i d l, e) refl
-
-pub place_step : (p : PathNames) (rs : List Row) (i : ℕ) (d : Row) → i < length rs → same_path p (get_or rs i d).path ≡ false → row_from i p (drop i rs) ≡ row_from (suc i) p (drop (suc i) rs)
-place_step p rs i d l e = rw (drop-cons rs i d l, e) refl
-
-pub place_here : (p : PathNames) (rs : List Row) (i : ℕ) (d : Row) → i < length rs → same_path p (get_or rs i d).path ≡ true → row_from i p (drop i rs) ≡ Some i
-place_here p rs i d l e = rw (drop-cons rs i d l, e) refl
-
-pub placed_where_there : (i : ℕ) (p : PathNames) (rs : List Row) → is_some (row_from i p rs) ≡ has_row p rs
-placed_where_there i p [] = refl
-placed_where_there i p (r ∷ rs) = step (same_path p r.path) (placed_where_there (suc i) p rs)
-  where
-    step : (b : Bool) → is_some (row_from (suc i) p rs) ≡ has_row p rs → is_some (cond b (Some i) (row_from (suc i) p rs)) ≡ (b || has_row p rs)
-    step true e = refl
-    step false e = e
-
-pub placed_below : (i : ℕ) (p : PathNames) (rs : List Row) (k : ℕ) → row_from i p rs ≡ Some k → k < i + length rs
-placed_below i p [] k e = absurd (cc)
-placed_below i p (r ∷ rs) k e = step (same_path p r.path) e (placed_below (suc i) p rs k)
-  where
-    step : (b : Bool) → cond b (Some i) (row_from (suc i) p rs) ≡ Some k → (row_from (suc i) p rs ≡ Some k → k < suc i + length rs) → k < i + suc (length rs)
-    step true e f = let same : i ≡ k = cc in omega arith
-    step false e f = let below : k < suc i + length rs = f e in omega arith
-
-placed_later : (p : PathNames) (rs : List Row) (i k : ℕ) → row_from (suc i) p rs ≡ Some k → (j : ℕ) × (k ≡ suc j) × (row_from i p rs ≡ Some j)
-placed_later p [] i k e = absurd (cc)
-placed_later p (r ∷ rs) i k e = step (same_path p r.path) e (placed_later p rs (suc i) k)
-  where
-    step : (b : Bool) → cond b (Some (suc i)) (row_from (suc (suc i)) p rs) ≡ Some k → (row_from (suc (suc i)) p rs ≡ Some k → (j : ℕ) × (k ≡ suc j) × (row_from (suc i) p rs ≡ Some j))
-        → (j : ℕ) × (k ≡ suc j) × (cond b (Some i) (row_from (suc i) p rs) ≡ Some j)
-    step true e f = (i, cc, refl)
-    step false e f = f e
-
--- ADDING
--- a row without a node keeps what is there
-pub empty_row_keeps : (p q : PathNames) (rs : List Row) → row_node p (rs ++ record { path = q; node = None } ∷ []) ≡ row_node p rs
-empty_row_keeps p q [] = step (same_path p q)
-  where
-    step : (b : Bool) → cond {A = Option Node} b None None ≡ None
-    step true = refl
-    step false = refl
-empty_row_keeps p q (s ∷ rs) = ap (cond (same_path p s.path) s.node) (empty_row_keeps p q rs)
-
-pub has_more : (p : PathNames) (rs : List Row) (r : Row) → has_row p (rs ++ r ∷ []) ≡ (has_row p rs || same_path p r.path)
-has_more p [] r = step (same_path p r.path)
-  where
-    step : (b : Bool) → (b || false) ≡ b
-    step true = refl
-    step false = refl
-has_more p (s ∷ rs) r = rw (has_more p rs r) (step (same_path p s.path) (has_row p rs) (same_path p r.path))
-  where
-    step : (a b c : Bool) → (a || (b || c)) ≡ ((a || b) || c)
-    step true b c = refl
-    step false b c = refl
-
--- WRITING
--- a row put in place of the first one of its path
-pub put_node : (p : PathNames) (rs : List Row) (r : Row) (k : ℕ) → row_from 0 r.path rs ≡ Some k → row_node p (set rs k r) ≡ cond (same_path p r.path) r.node (row_node p rs)
-put_node p [] r k e = absurd (cc)
-put_node p (s ∷ rs) r k e = step (same_path r.path s.path) refl e (put_node p rs r)
-  where
-    covered : (b : Bool) (o x : Option Node) → cond b o x ≡ cond b o (cond b o x)
-    covered true o x = refl
-    covered false o x = refl
-
-    here : r.path ≡ s.path → cond (same_path p r.path) r.node (row_node p rs) ≡ cond (same_path p r.path) r.node (cond (same_path p s.path) s.node (row_node p rs))
-    here e = rw (← e) (twice (same_path p r.path))
-      where
-        twice : (b : Bool) → cond b r.node (row_node p rs) ≡ cond b r.node (cond b s.node (row_node p rs))
-        twice true = refl
-        twice false = refl
-
-    behind : (j : ℕ) → same_path r.path s.path ≡ false → k ≡ suc j → row_node p (set rs j r) ≡ cond (same_path p r.path) r.node (row_node p rs) → row_node p (set (s ∷ rs) k r) ≡ cond (same_path p r.path) r.node (row_node p (s ∷ rs))
-    behind j b q e = rw (q, e) (apart (same_path p s.path) refl (same_path p r.path) refl)
-      where
-        apart : (a : Bool) → same_path p s.path ≡ a → (c : Bool) → same_path p r.path ≡ c → cond a s.node (cond c r.node (row_node p rs)) ≡ cond c r.node (cond a s.node (row_node p rs))
-        apart true u true v = absurd (false≢true (sym b ∙ subst (λ x. same_path x s.path ≡ true) (same_path_is p r.path v) u))
-        apart true u false v = refl
-        apart false u c v = refl
-
-    step : (b : Bool) → same_path r.path s.path ≡ b → cond b (Some 0) (row_from 1 r.path rs) ≡ Some k → ((j : ℕ) → row_from 0 r.path rs ≡ Some j → row_node p (set rs j r) ≡ cond (same_path p r.path) r.node (row_node p rs)) → row_node p (set (s ∷ rs) k r) ≡ cond (same_path p r.path) r.node (row_node p (s ∷ rs))
-    step true b e f = let first : k ≡ 0 = cc in rw first (here (same_path_is r.path s.path b))
-    step false b e f = let later : (j : ℕ) × (k ≡ suc j) × (row_from 0 r.path rs ≡ Some j) = placed_later r.path rs 0 k e in behind later.0 b later.1 (f later.0 later.2)
-
-pub put_has : (p : PathNames) (rs : List Row) (r : Row) (k : ℕ) → row_from 0 r.path rs ≡ Some k → has_row p (set rs k r) ≡ has_row p rs
-put_has p [] r k e = absurd (cc)
-put_has p (s ∷ rs) r k e = step (same_path r.path s.path) refl e (put_has p rs r)
-  where
-    behind : (j : ℕ) → k ≡ suc j → has_row p (set rs j r) ≡ has_row p rs → has_row p (set (s ∷ rs) k r) ≡ has_row p (s ∷ rs)
-    behind j q e = rw (q, e) refl
-
-    step : (b : Bool) → same_path r.path s.path ≡ b → cond b (Some 0) (row_from 1 r.path rs) ≡ Some k → ((j : ℕ) → row_from 0 r.path rs ≡ Some j → has_row p (set rs j r) ≡ has_row p rs) → has_row p (set (s ∷ rs) k r) ≡ has_row p (s ∷ rs)
-    step true b e f = let first : k ≡ 0 = cc in rw (first, same_path_is r.path s.path b) refl
-    step false b e f = let later : (j : ℕ) × (k ≡ suc j) × (row_from 0 r.path rs ≡ Some j) = placed_later r.path rs 0 k e in behind later.0 later.1 (f later.0 later.2)
-
-pub written_last : (p : PathNames) (rs : List Row) (r : Row) (o : Option Node) → written p (rs ++ r ∷ []) o ≡ written p rs (cond (same_path p r.path) r.node o)
-written_last p [] r o = refl
-written_last p (s ∷ rs) r o = ap (cond (same_path p s.path) s.node) (written_last p rs r o)
-
-pub last_has_row : (rs : List Row) (r : Row) (rows : List Row) → rows_have_rows (rs ++ r ∷ []) rows ≡ true → (rows_have_rows rs rows ≡ true) × (has_row r.path rows ≡ true)
-last_has_row [] r rows h = (refl, step (has_row r.path rows) h)
-  where
-    step : (b : Bool) → cond b true false ≡ true → b ≡ true
-    step true h = refl
-    step false h = h
-last_has_row (s ∷ rs) r rows h = step (has_row s.path rows) h (last_has_row rs r rows)
-  where
-    step : (b : Bool) → cond b (rows_have_rows (rs ++ r ∷ []) rows) false ≡ true → (rows_have_rows (rs ++ r ∷ []) rows ≡ true → (rows_have_rows rs rows ≡ true) × (has_row r.path rows ≡ true)) → (cond b (rows_have_rows rs rows) false ≡ true) × (has_row r.path rows ≡ true)
-    step true h f = f h
-    step false h f = absurd (false≢true h)
-
-pub have_rows_like : (rs : List Row) (rows others : List Row) → ((p : PathNames) → has_row p others ≡ has_row p rows) → rows_have_rows rs rows ≡ true → rows_have_rows rs others ≡ true
-have_rows_like [] rows others f h = refl
-have_rows_like (r ∷ rs) rows others f h = rw (f r.path) (step (has_row r.path rows) h (have_rows_like rs rows others f))
-  where
-    step : (b : Bool) → cond b (rows_have_rows rs rows) false ≡ true → (rows_have_rows rs rows ≡ true → rows_have_rows rs others ≡ true) → cond b (rows_have_rows rs others) false ≡ true
-    step true h f = f h
-    step false h f = h
+use Rattle.fk_tree.specs.declared.edit.What.{What}
+use Rattle.fk_tree.specs.declared.edit.What.TheVariants as what
+use Rattle.fk_tree.specs.declared.slots.Changed.{Changed}
+use Rattle.fk_tree.specs.Sorted.{has_name, add_name, drop_name, rises}
+use Rattle.fk_tree.specs.Tree.{map_some, with_names, fresh, up}
+use Rattle.fk_tree.specs.Edit.{edit, edited, effects, create_edits, owner_for, delete_edits, deletes_edits, with_bytes, with_child, without_child}
+use Rattle.fk_tree.specs.declared.applied.Applied.{Applied}
+use Rattle.fk_tree.specs.declared.request.Request.TheVariants as request
+use Rattle.fk_tree.specs.Rows.{Row, row_node, has_row, have_rows, changed_by, changes_by, changes_have_rows, written, names_of, is_of, is_noted, is_drop, are_drops, is_edit_noted, are_noted, AreEdited, AreNoted, AreRising, KeepSame, KeepsNotes}
+use Rattle.fk_tree.proofs.Notes.{Sets}
+use Rattle.fk_tree.proofs.Order.{by_test, same_path_is, name_total, name_exact, child_apart, child_parts}
+use Rattle.fk_tree.proofs.Rising.{rises_without}
 
 -- EDITING
 pub edited_step : (tx moment : ℕ) (p : PathNames) (es : List Edit) (i : ℕ) (d : Edit) (o : Option Node) → i < length es → edited tx moment p (drop i es) o ≡ edited tx moment p (drop (suc i) es) (cond (same_path p (get_or es i d).path) (edit tx moment (get_or es i d).what o) o)
 edited_step tx moment p es i d o l = rw (drop-cons es i d l) refl
 
--- AT THE CALLS
-pub row_added : (p : PathNames) (rs : List Row) (o : Option Node) → has_row p (rs ++ record { path = p; node = o } ∷ []) ≡ true
-row_added p rs o = has_more p rs (record { path = p; node = o }) ∙ rw (same_path_self p) (step (has_row p rs))
-  where
-    step : (b : Bool) → (b || true) ≡ true
-    step true = refl
-    step false = refl
+-- edits, and then others
+pub edited_both : (tx moment : ℕ) (p : PathNames) (es fs : List Edit) (o : Option Node) → edited tx moment p (es ++ fs) o ≡ edited tx moment p fs (edited tx moment p es o)
+edited_both tx moment p [] fs o = refl
+edited_both tx moment p (e ∷ es) fs o = edited_both tx moment p es fs (cond (same_path p e.path) (edit tx moment e.what o) o)
 
-pub rows_stay : (p : PathNames) (rs : List Row) (r : Row) → has_row p rs ≡ true → has_row p (rs ++ r ∷ []) ≡ true
-rows_stay p rs r h = has_more p rs r ∙ rw h refl
+pub edited_more : (tx moment : ℕ) (p : PathNames) (es : List Edit) (i : ℕ) (e : Edit) (o : Option Node) → i < length es → e ≡ get_or es i e → edited tx moment p (take (i + 1) es) o ≡ cond (same_path p e.path) (edit tx moment e.what (edited tx moment p (take i es) o)) (edited tx moment p (take i es) o)
+edited_more tx moment p es i e o l s = rw (take_more es i e l, ← s) (edited_both tx moment p (take i es) (e ∷ []) o)
 
-pub place_within : (p : PathNames) (rs : List Row) (k : ℕ) → row_from 0 p rs ≡ Some k → k < length rs
-place_within p rs k e = let below : k < 0 + length rs = placed_below 0 p rs k e in omega arith
-
-pub none_placed : (p : PathNames) (rs : List Row) → row_from 0 p rs ≡ None → has_row p rs ≡ false
-none_placed p rs e = sym (placed_where_there 0 p rs) ∙ ap is_some e
-
-pub some_placed : (p : PathNames) (rs : List Row) → is_some (row_from 0 p rs) ≡ true → has_row p rs ≡ true
-some_placed p rs e = sym (placed_where_there 0 p rs) ∙ e
-
-pub have_more_rows : (es : List Edit) (e : Edit) (rows : List Row) → have_rows es rows ≡ true → has_row e.path rows ≡ true → have_rows (es ++ e ∷ []) rows ≡ true
+-- ADDING
+have_more_rows : (es : List Edit) (e : Edit) (rows : List Row) → have_rows es rows ≡ true → has_row e.path rows ≡ true → have_rows (es ++ e ∷ []) rows ≡ true
 have_more_rows [] e rows h a = rw a refl
 have_more_rows (f ∷ es) e rows h a = step (has_row f.path rows) h (have_more_rows es e rows)
   where
@@ -167,7 +41,7 @@ have_more_rows (f ∷ es) e rows h a = step (has_row f.path rows) h (have_more_r
     step true h f = f h a
     step false h f = h
 
-pub have_rows_stay : (es : List Edit) (rows others : List Row) → ((p : PathNames) → has_row p rows ≡ true → has_row p others ≡ true) → have_rows es rows ≡ true → have_rows es others ≡ true
+have_rows_stay : (es : List Edit) (rows others : List Row) → ((p : PathNames) → has_row p rows ≡ true → has_row p others ≡ true) → have_rows es rows ≡ true → have_rows es others ≡ true
 have_rows_stay [] rows others f h = refl
 have_rows_stay (e ∷ es) rows others f h = step (has_row e.path rows) refl h (have_rows_stay es rows others f)
   where
@@ -175,13 +49,214 @@ have_rows_stay (e ∷ es) rows others f h = step (has_row e.path rows) refl h (h
     step true a h g = rw (f e.path a) (g h)
     step false a h g = absurd (false≢true h)
 
--- the rows of one edit more
-pub edited_more : (tx moment : ℕ) (rows : List Row) (all es : List Edit) (e : Edit) → edited_rows tx moment rows all (es ++ e ∷ []) ≡ edited_rows tx moment rows all es ++ edited_row tx moment rows all e ∷ []
-edited_more tx moment rows all [] e = refl
-edited_more tx moment rows all (f ∷ es) e = ap (λ rs. edited_row tx moment rows all f ∷ rs) (edited_more tx moment rows all es e)
-
 pub have_rows_step : (es : List Edit) (i : ℕ) (e : Edit) (rows others : List Row) → i < length es → e ≡ get_or es i e → ((p : PathNames) → has_row p rows ≡ true → has_row p others ≡ true) → have_rows (take i es) rows ≡ true → has_row e.path others ≡ true → have_rows (take (i + 1) es) others ≡ true
 have_rows_step es i e rows others l s f h a = rw (take_more es i e l, ← s) (have_more_rows (take i es) e others (have_rows_stay (take i es) rows others f h) a)
 
-pub edited_rows_step : (tx moment : ℕ) (rows : List Row) (all es : List Edit) (i : ℕ) (e : Edit) → i < length es → e ≡ get_or es i e → edited_rows tx moment rows all (take (i + 1) es) ≡ edited_rows tx moment rows all (take i es) ++ record { path = e.path; node = edited tx moment e.path all (row_node e.path rows) } ∷ []
-edited_rows_step tx moment rows all es i e l s = rw (take_more es i e l, ← s) (edited_more tx moment rows all (take i es) e)
+-- WRITING
+changes_more : (tx moment : ℕ) (rows : List Row) (all es : List Edit) (e : Edit) → changes_by tx moment rows all (es ++ e ∷ []) ≡ changes_by tx moment rows all es ++ changed_by tx moment rows all e ∷ []
+changes_more tx moment rows all [] e = refl
+changes_more tx moment rows all (f ∷ es) e = ap (λ cs. changed_by tx moment rows all f ∷ cs) (changes_more tx moment rows all es e)
+
+pub changes_step : (tx moment : ℕ) (rows : List Row) (all es : List Edit) (i : ℕ) (e : Edit) → i < length es → e ≡ get_or es i e → changes_by tx moment rows all (take (i + 1) es) ≡ changes_by tx moment rows all (take i es) ++ record { path = e.path; node = edited tx moment e.path all (row_node e.path rows) } ∷ []
+changes_step tx moment rows all es i e l s = rw (take_more es i e l, ← s) (changes_more tx moment rows all (take i es) e)
+
+pub written_last : (p : PathNames) (cs : List Changed) (c : Changed) (o : Option Node) → written p (cs ++ c ∷ []) o ≡ written p cs (cond (same_path p c.path) c.node o)
+written_last p [] c o = refl
+written_last p (d ∷ cs) c o = ap (cond (same_path p d.path) d.node) (written_last p cs c o)
+
+pub last_has_row : (cs : List Changed) (c : Changed) (rows : List Row) → changes_have_rows (cs ++ c ∷ []) rows ≡ true → (changes_have_rows cs rows ≡ true) × (has_row c.path rows ≡ true)
+last_has_row [] c rows h = (refl, step (has_row c.path rows) h)
+  where
+    step : (b : Bool) → cond b true false ≡ true → b ≡ true
+    step true h = refl
+    step false h = h
+last_has_row (d ∷ cs) c rows h = step (has_row d.path rows) h (last_has_row cs c rows)
+  where
+    step : (b : Bool) → cond b (changes_have_rows (cs ++ c ∷ []) rows) false ≡ true → (changes_have_rows (cs ++ c ∷ []) rows ≡ true → (changes_have_rows cs rows ≡ true) × (has_row c.path rows ≡ true)) → (cond b (changes_have_rows cs rows) false ≡ true) × (has_row c.path rows ≡ true)
+    step true h f = f h
+    step false h f = absurd (false≢true h)
+
+pub have_rows_like : (cs : List Changed) (rows others : List Row) → ((p : PathNames) → has_row p others ≡ has_row p rows) → changes_have_rows cs rows ≡ true → changes_have_rows cs others ≡ true
+have_rows_like [] rows others f h = refl
+have_rows_like (c ∷ cs) rows others f h = rw (f c.path) (step (has_row c.path rows) h (have_rows_like cs rows others f))
+  where
+    step : (b : Bool) → cond b (changes_have_rows cs rows) false ≡ true → (changes_have_rows cs rows ≡ true → changes_have_rows cs others ≡ true) → cond b (changes_have_rows cs others) false ≡ true
+    step true h f = f h
+    step false h f = h
+
+-- taking out what isn't there changes nothing
+pub gone_same : (rows others : List Row) (k : PathNames) → row_node k rows ≡ None → ((p : PathNames) → row_node p others ≡ cond (same_path p k) None (row_node p rows)) → (p : PathNames) → row_node p others ≡ row_node p rows
+gone_same rows others k e u p = u p ∙ by_test (same_path p k) (λ b. cond b None (row_node p rows) ≡ row_node p rows) (λ s. rw (same_path_is p k s) (sym e)) (λ _. refl)
+
+-- DROPPING
+pub drops_at : (es : List Edit) (i : ℕ) (d : Edit) → i < length es → are_drops es ≡ true → is_drop (get_or es i d).what ≡ true
+drops_at [] i d l h = let none : ⊥ = omega arith in absurd none
+drops_at (e ∷ es) zero d l h = first (is_drop e.what) h
+  where
+    first : (b : Bool) → cond b (are_drops es) false ≡ true → b ≡ true
+    first true h = refl
+    first false h = h
+drops_at (e ∷ es) (suc i) d l h = let shorter : i < length es = omega arith in drops_at es i d shorter (rest (is_drop e.what) h)
+  where
+    rest : (b : Bool) → cond b (are_drops es) false ≡ true → are_drops es ≡ true
+    rest true h = h
+    rest false h = absurd (false≢true h)
+
+dropped_rise : (x : Name) (tx : ℕ) (o : Option Node) → rises name_cmp (names_of o) ≡ true → rises name_cmp (names_of (map_some (without_child x tx) o)) ≡ true
+dropped_rise x tx None h = refl
+dropped_rise x tx (Some n) h = step (has_name x n.names)
+  where
+    step : (b : Bool) → rises name_cmp (cond b (record n { cversion = up n.cversion; pzxid = tx; names = drop_name x n.names }) n).names ≡ true
+    step true = rises_without name_total name_exact x n.names h
+    step false = h
+
+pub rising_without : (rows others : List Row) (k : PathNames) (x : Name) (tx : ℕ) → AreRising rows → ((p : PathNames) → row_node p others ≡ cond (same_path p k) (map_some (without_child x tx) (row_node p rows)) (row_node p rows)) → AreRising others
+rising_without rows others k x tx h u p = rw (u p) (step (same_path p k))
+  where
+    step : (b : Bool) → rises name_cmp (names_of (cond b (map_some (without_child x tx) (row_node p rows)) (row_node p rows))) ≡ true
+    step true = dropped_rise x tx (row_node p rows) (h p)
+    step false = h p
+
+-- NOTING
+none_lost : (es : List Edit) (sets others : Sets) → KeepsNotes sets others → are_noted es sets ≡ true → are_noted es others ≡ true
+none_lost [] sets others k h = refl
+none_lost (e ∷ es) sets others k h = step (is_edit_noted e sets) refl h (none_lost es sets others k)
+  where
+    make : (w : What) (p : PathNames) → is_edit_noted (record { path = p; what = w }) sets ≡ true → is_edit_noted (record { path = p; what = w }) others ≡ true
+    make (what.Make bytes owner) p h = by_test (eqb owner 0) (λ b. (b || is_noted owner p others) ≡ true) (λ _. refl) (λ e. k owner p (subst (λ b. (b || is_noted owner p sets) ≡ true) e h))
+    make (what.Replace bytes) p h = refl
+    make what.Remove p h = refl
+    make (what.AddName x) p h = refl
+    make (what.DropName x) p h = refl
+
+    step : (b : Bool) → is_edit_noted e sets ≡ b → cond b (are_noted es sets) false ≡ true → (are_noted es sets ≡ true → are_noted es others ≡ true) → are_noted (e ∷ es) others ≡ true
+    step true a h f = rw (make e.what e.path a) (f h)
+    step false a h f = absurd (false≢true h)
+
+noted_last : (es : List Edit) (e : Edit) (sets : Sets) → are_noted es sets ≡ true → is_edit_noted e sets ≡ true → are_noted (es ++ e ∷ []) sets ≡ true
+noted_last [] e sets h a = rw a refl
+noted_last (f ∷ es) e sets h a = step (is_edit_noted f sets) h (noted_last es e sets)
+  where
+    step : (b : Bool) → cond b (are_noted es sets) false ≡ true → (are_noted es sets ≡ true → is_edit_noted e sets ≡ true → are_noted (es ++ e ∷ []) sets ≡ true) → cond b (are_noted (es ++ e ∷ []) sets) false ≡ true
+    step true h f = f h a
+    step false h f = h
+
+pub noted_step : (es : List Edit) (i : ℕ) (e : Edit) (sets others : Sets) → i < length es → e ≡ get_or es i e → KeepsNotes sets others → are_noted (take i es) sets ≡ true → is_edit_noted e others ≡ true → are_noted (take (i + 1) es) others ≡ true
+noted_step es i e sets others l s k h a = rw (take_more es i e l, ← s) (noted_last (take i es) e others (none_lost (take i es) sets others k h) a)
+
+-- CREATING
+-- the new node, and its name in the parent that was there before
+pub made_rows : (tx moment owner : ℕ) (p q : PathNames) (bytes : List ℕ) (n : Node) (rows before after : List Row)
+    → n ≡ with_names [] (fresh bytes owner tx moment)
+    → ((r : PathNames) → row_node r before ≡ row_node r rows)
+    → ((r : PathNames) → row_node r after ≡ cond (same_path r p) (Some n) (row_node r before))
+    → is_root p ≡ true → row_node q after ≡ edited tx moment q (create_edits p bytes owner) (row_node q rows)
+made_rows tx moment owner [] q bytes n rows before after e s u r = u q ∙ rw (s q, e) refl
+made_rows tx moment owner (x ∷ p) q bytes n rows before after e s u r = absurd (false≢true r)
+
+pub child_rows : (tx moment owner : ℕ) (p q : PathNames) (bytes : List ℕ) (n : Node) (rows before between after : List Row)
+    → n ≡ with_names [] (fresh bytes owner tx moment)
+    → ((r : PathNames) → row_node r before ≡ row_node r rows)
+    → ((r : PathNames) → row_node r between ≡ cond (same_path r (parent p)) (map_some (with_child (last_name p) tx) (row_node r before)) (row_node r before))
+    → ((r : PathNames) → row_node r after ≡ cond (same_path r p) (Some n) (row_node r between))
+    → is_root p ≡ false → row_node q after ≡ edited tx moment q (create_edits p bytes owner) (row_node q rows)
+child_rows tx moment owner [] q bytes n rows before between after m s u v r = absurd (false≢true (sym r))
+child_rows tx moment owner (x ∷ p) q bytes n rows before between after m s u v r =
+    v q
+    ∙ rw (u q, s q, m)
+    (by_test (same_path q (x ∷ p))
+    (λ b. cond b (Some (with_names [] (fresh bytes owner tx moment))) (cond (same_path q (parent (x ∷ p))) (map_some (with_child (last_name (x ∷ p)) tx) (row_node q rows)) (row_node q rows))
+    ≡ cond (same_path q (parent (x ∷ p))) (map_some (with_child (last_name (x ∷ p)) tx) (cond b (Some (with_names [] (fresh bytes owner tx moment))) (row_node q rows))) (cond b (Some (with_names [] (fresh bytes owner tx moment))) (row_node q rows)))
+    (λ e. rw (apart e) refl)
+    (λ _. refl))
+  where
+    apart : same_path q (x ∷ p) ≡ true → same_path q (parent (x ∷ p)) ≡ false
+    apart e = rw (same_path_is q (x ∷ p) e) (subst (λ r. same_path r (parent (x ∷ p)) ≡ false) (sym (child_parts x p)) (child_apart (parent (x ∷ p)) (last_name (x ∷ p))))
+
+-- a node that a session owns after edits was that session's, or is noted
+owned_edited : (s tx moment : ℕ) (p : PathNames) (sets : Sets) (es : List Edit) (o : Option Node) → 0 < s → are_noted es sets ≡ true → is_of s (edited tx moment p es o) ≡ true → (is_of s o ≡ true → is_noted s p sets ≡ true) → is_noted s p sets ≡ true
+owned_edited s tx moment p sets [] o l n h f = f h
+owned_edited s tx moment p sets (e ∷ es) o l n h f =
+    owned_edited s tx moment p sets es (cond (same_path p e.path) (edit tx moment e.what o) o) l (rest (is_edit_noted e sets) n) h
+    (one (same_path p e.path) refl)
+  where
+    rest : (b : Bool) → cond b (are_noted es sets) false ≡ true → are_noted es sets ≡ true
+    rest true h = h
+    rest false h = absurd (false≢true h)
+
+    first : (b : Bool) → cond b (are_noted es sets) false ≡ true → b ≡ true
+    first true h = refl
+    first false h = absurd (false≢true h)
+
+    new : (owner : ℕ) (q : PathNames) → same_path p q ≡ true → (eqb owner 0 || is_noted owner q sets) ≡ true → eqb owner s ≡ true → is_noted s p sets ≡ true
+    new owner q t m i = let same : owner ≡ s = grind (arith, nat_tests) in rw (same_path_is p q t, ← same) (other (eqb owner 0) refl m)
+      where
+        other : (b : Bool) → eqb owner 0 ≡ b → (b || is_noted owner q sets) ≡ true → is_noted owner q sets ≡ true
+        other true z m = let none : ⊥ = grind (arith, nat_tests) in absurd none
+        other false z m = m
+
+    what_is : (w : What) → is_edit_noted (record { path = e.path; what = w }) sets ≡ true → same_path p e.path ≡ true → is_of s (edit tx moment w o) ≡ true → is_noted s p sets ≡ true
+    what_is (what.Make bytes owner) m t i = new owner e.path t m i
+    what_is (what.Replace bytes) m t i = f (kept o i)
+      where
+        kept : (x : Option Node) → is_of s (map_some (with_bytes bytes tx moment) x) ≡ true → is_of s x ≡ true
+        kept None i = i
+        kept (Some n) i = i
+    what_is what.Remove m t i = absurd (false≢true i)
+    what_is (what.AddName x) m t i = f (kept o i)
+      where
+        at : (n : Node) (b : Bool) → is_of s (Some (cond b n (record n { cversion = up n.cversion; made = up n.made; pzxid = tx; names = add_name x n.names }))) ≡ true → eqb n.owner s ≡ true
+        at n true i = i
+        at n false i = i
+
+        kept : (y : Option Node) → is_of s (map_some (with_child x tx) y) ≡ true → is_of s y ≡ true
+        kept None i = i
+        kept (Some n) i = at n (has_name x n.names) i
+    what_is (what.DropName x) m t i = f (kept o i)
+      where
+        at : (n : Node) (b : Bool) → is_of s (Some (cond b (record n { cversion = up n.cversion; pzxid = tx; names = drop_name x n.names }) n)) ≡ true → eqb n.owner s ≡ true
+        at n true i = i
+        at n false i = i
+
+        kept : (y : Option Node) → is_of s (map_some (without_child x tx) y) ≡ true → is_of s y ≡ true
+        kept None i = i
+        kept (Some n) i = at n (has_name x n.names) i
+
+    one : (b : Bool) → same_path p e.path ≡ b → is_of s (cond b (edit tx moment e.what o) o) ≡ true → is_noted s p sets ≡ true
+    one true t i = what_is e.what (first (is_edit_noted e sets) n) t i
+    one false t i = f i
+
+-- what was noted is noted after edits, or where nothing changed
+pub noted_after : {T E : Type 0} (r : Result T E) (tx moment : ℕ) (es : List Edit) (rows others : List Row) (sets : Sets) → are_noted es sets ≡ true → OnOk r (AreEdited tx moment es rows others) → OnErr r (KeepSame rows others) → AreNoted rows sets → AreNoted others sets
+noted_after (Ok x) tx moment es rows others sets n a b k s p l h = owned_edited s tx moment p sets es (row_node p rows) l n (sym (ap (is_of s) (a p)) ∙ h) (k s p l)
+noted_after (Err x) tx moment es rows others sets n a b k s p l h = k s p l (sym (ap (is_of s) (b p)) ∙ h)
+
+-- THE EDITS OF A CLOSE AND OF A DELETE
+drops_both : (es fs : List Edit) → are_drops es ≡ true → are_drops fs ≡ true → are_drops (es ++ fs) ≡ true
+drops_both [] fs a b = b
+drops_both (e ∷ es) fs a b = step (is_drop e.what) a (drops_both es fs)
+  where
+    step : (c : Bool) → cond c (are_drops es) false ≡ true → (are_drops es ≡ true → are_drops fs ≡ true → are_drops (es ++ fs) ≡ true) → cond c (are_drops (es ++ fs)) false ≡ true
+    step true a f = f a b
+    step false a f = a
+
+delete_drops : (p : PathNames) → are_drops (delete_edits p) ≡ true
+delete_drops [] = refl
+delete_drops (n ∷ p) = refl
+
+deletes_drop : (ps : List PathNames) → are_drops (deletes_edits ps) ≡ true
+deletes_drop [] = refl
+deletes_drop (p ∷ ps) = drops_both (delete_edits p) (deletes_edits ps) (delete_drops p) (deletes_drop ps)
+
+pub close_drops : (a : Applied) (evict : Bool) (es : List Edit) → a.request ≡ request.Close evict → es ≡ effects a → are_drops es ≡ true
+close_drops a evict es r e = rw (e, r) (deletes_drop a.gone)
+
+pub made_edits : (a : Applied) (p : PathNames) (bytes : List ℕ) (seq eph : Bool) (owner : ℕ) (es : List Edit) → a.request ≡ request.Create p bytes seq eph → owner ≡ owner_for a.session eph → es ≡ effects a → es ≡ create_edits a.name bytes owner
+made_edits a p bytes seq eph owner es r o e = rw (e, r, o) refl
+
+pub more_noted : (rows : List Row) (sets others : Sets) → AreNoted rows sets → KeepsNotes sets others → AreNoted rows others
+more_noted rows sets others n k s p l h = k s p (n s p l h)
+
+pub any_err : {T E : Type 0} {A : Type 0} (r : Result T E) → A → OnErr r A
+any_err (Ok x) a = tt
+any_err (Err x) a = a

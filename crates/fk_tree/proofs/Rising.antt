@@ -40,11 +40,11 @@ module _ {K : Type 0} {R : K → K → Ordering} (o : IsTotalOrder R) (exact : I
   not_tied n m e = rw (less (R n m) e) refl
 
   -- what is below all of a list isn't in it
-  below_absent : (n : K) (ms : List K) → is_below R n ms ≡ true → has R n ms ≡ false
+  pub below_absent : (n : K) (ms : List K) → is_below R n ms ≡ true → has R n ms ≡ false
   below_absent n [] h = refl
   below_absent n (m ∷ ms) h = rw (not_tied n m (and_left _ _ h)) (below_absent n ms (and_right _ _ h))
 
-  below_further : (n m : K) (ms : List K) → is_lt (R n m) ≡ true → is_below R m ms ≡ true → is_below R n ms ≡ true
+  pub below_further : (n m : K) (ms : List K) → is_lt (R n m) ≡ true → is_below R m ms ≡ true → is_below R n ms ≡ true
   below_further n m [] a h = refl
   below_further n m (k ∷ ms) a h = rw (ap is_lt (o.trans n m k (less _ a) (less _ (and_left _ _ h)))) (below_further n m ms a (and_right _ _ h))
 

@@ -20,7 +20,7 @@ place_step n ns i d l e = rw (drop-cons ns i d l, e) refl
 pub place_here : (n : Name) (ns : List Name) (i : ℕ) (d : Name) → i < length ns → is_gt (name_cmp n (get_or ns i d)) ≡ false → place_from i n (drop i ns) ≡ i
 place_here n ns i d l e = rw (drop-cons ns i d l, e) refl
 
-place_later : (n : Name) (ns : List Name) (i : ℕ) → place_from (suc i) n ns ≡ suc (place_from i n ns)
+pub place_later : (n : Name) (ns : List Name) (i : ℕ) → place_from (suc i) n ns ≡ suc (place_from i n ns)
 place_later n [] i = refl
 place_later n (m ∷ ns) i = step (is_gt (name_cmp n m)) (place_later n ns (suc i))
   where

@@ -1,155 +1,87 @@
--- A tree after a plain request: what it shows, and that it stays whole.
-use Rattle.std.proofs.Common.{◌≡◌, ℕ, ℤ, Bool, true, false, cond, eqb, ◌||◌, List, [], ◌∷◌, ◌++◌, Option, Some, None, refl, sym, ◌∙◌, ap, subst}
+-- A tree after a request: what it shows, and that it stays whole.
+use Rattle.std.proofs.Common.{◌≡◌, ◌<◌, ℕ, suc, true, false, eqb, List, [], ◌∷◌, Option, None, refl, sym, ◌∙◌, ap, subst}
 use Rattle.std.specs.Prelude.{is_some}
-use Rattle.std.specs.FinMap.{get, get-empty, get-insert, empty}
-use Rattle.std.proofs.lemmas.Bool.{false≢true}
-use Rattle.fk_base.specs.Path.{Name, PathNames, path_cmp, same_path, parent, is_root}
+use Rattle.std.specs.FinMap.{get}
+use Rattle.fk_base.specs.Path.{PathNames, parent, is_root}
 use Rattle.fk_tree.specs.declared.node.Node.{Node}
 use Rattle.fk_tree.specs.declared.applied.Applied.{Applied}
+use Rattle.fk_tree.specs.declared.applied.Made.{Made}
+use Rattle.fk_tree.specs.declared.request.Part.{Part}
+use Rattle.fk_tree.specs.declared.request.Part.TheVariants as part
 use Rattle.fk_tree.specs.declared.request.Request.{Request}
 use Rattle.fk_tree.specs.declared.request.Request.TheVariants as request
-use Rattle.fk_tree.specs.declared.rows.Row.{Row}
-use Rattle.fk_base.specs.declared.code.Code.{Code}
-use Rattle.fk_base.specs.declared.code.Code.TheVariants as code
-use Rattle.fk_tree.specs.Sorted.{has_name}
-use Rattle.fk_tree.specs.Tree.{Bare, Nodes, children, with_names, map_some, node_view, start_tree, root_node}
-use Rattle.fk_tree.specs.View.{View, is_in, look}
-use Rattle.fk_tree.specs.Edit.{closes, create_edits, edited, effects, effects_of, owner_for}
-use Rattle.fk_tree.specs.Fill.{fill_name}
-use Rattle.fk_tree.specs.Check.{Refusal, check, check_create, check_under, check_delete, check_open, has_names, at_place, is_version, IsPlain}
-use Rattle.fk_tree.specs.Apply.{apply, apply_nodes, create_node, IsFilled}
-use Rattle.fk_tree.specs.Rows.{row_node, nodes_of, tree_of, HasParents, IsKept, AreEdited}
-use Rattle.fk_tree.proofs.Order.{path_total, child_not_root}
-use Rattle.fk_tree.proofs.Views.{has_children, children_of, set_view, create_view}
+use Rattle.fk_tree.specs.Sorted.{has_path}
+use Rattle.fk_tree.specs.Tree.{Nodes, Tree, node_view}
+use Rattle.fk_tree.specs.View.{View, look}
+use Rattle.fk_tree.specs.Edit.{edited, effects_of, create_edits, deletes_edits, delete_edits, part_edits, parts_edits, owner_for}
+use Rattle.fk_tree.specs.Fill.{fill, fill_part, fill_parts, after_part, final_path, made_of, owned}
+use Rattle.fk_tree.specs.Check.{check_create, check_part, check_parts, check_open, at_place}
+use Rattle.fk_tree.specs.Apply.{apply_nodes, apply_part, apply_parts, create_node, delete_node, delete_nodes}
+use Rattle.fk_tree.specs.Rows.{HasParents}
+use Rattle.fk_tree.proofs.Alike.{AreAlike, edited_alike, some_alike, owner_alike, delete_alike, owner_in}
+use Rattle.fk_tree.proofs.Keeping.{edited_both}
+use Rattle.fk_tree.proofs.Passing.{Passes, some_view, free_view, placed_none, first_none, second_none, passed_create, passed_delete, final_parent, final_child}
+use Rattle.fk_tree.proofs.Views.{set_view, create_view}
 use Rattle.fk_tree.proofs.Deletes.{delete_view}
-use Rattle.fk_tree.proofs.Parents.{set_keeps, create_keeps, delete_keeps}
-use Rattle.fk_tree.proofs.Written.{keeps_tree, is_kept}
+use Rattle.fk_tree.proofs.Parents.{set_keeps, create_keeps, delete_keeps, deletes_keep}
+use Rattle.fk_tree.proofs.Owning.{owned_unfree}
 
-pub some_view : (t : Nodes) (p : PathNames) → is_some (node_view t p) ≡ is_some (get t p)
-some_view t p = step (children t p) (get t p)
-  where
-    step : (ns : List Name) (o : Option Bare) → is_some (map_some (with_names ns) o) ≡ is_some o
-    step ns None = refl
-    step ns (Some b) = refl
+-- nodes that show what the edits leave, each with its parent
+abbrev pub IsEdited : ℕ → ℕ → Nodes → Nodes → (PathNames → Option Node → Option Node) → Type 0
+IsEdited tx moment t u f = ((q : PathNames) → node_view u q ≡ f q (node_view t q)) × HasParents u
 
--- what passes for a session passes the checks behind that of the session
-passed_open : (v : View) (s : ℕ) (r : Request) → check v s r ≡ None → check_open v s r ≡ None
-passed_open v s r e = step (v.closed s) (record { code = code.SessionExpired; place = 0 }) e
-  where
-    step : (b : Bool) (x : Refusal) → cond b (Some x) (check_open v s r) ≡ None → check_open v s r ≡ None
-    step true x e = absurd (cc)
-    step false x e = e
+-- a create at a free path under an open parent
+created : (t : Nodes) (p : PathNames) (bytes : List ℕ) (owner tx moment : ℕ) → HasParents t → is_root p ≡ false → eqb (owner_in (node_view t (parent p))) 0 ≡ true → is_some (node_view t p) ≡ false
+    → IsEdited tx moment t (create_node p bytes owner tx moment t) (λ q. edited tx moment q (create_edits p bytes owner))
+created t p bytes owner tx moment h r o f =
+    let taken : is_some (get t p) ≡ false = sym (some_view t p) ∙ f in
+    (λ q. create_view t p q bytes owner tx moment h r taken, create_keeps t p bytes owner tx moment h r (sym (free_view t (parent p)) ∙ o) taken)
 
-placed_none : (o : Option Code) → at_place 0 o ≡ None → o ≡ None
-placed_none None e = refl
-placed_none (Some c) e = absurd (cc)
+-- deletes, one after another
+deletes_view : (t : Nodes) (ps : List PathNames) (q : PathNames) (tx moment : ℕ) → node_view (delete_nodes ps tx t) q ≡ edited tx moment q (deletes_edits ps) (node_view t q)
+deletes_view t [] q tx moment = refl
+deletes_view t (p ∷ ps) q tx moment = deletes_view (delete_node p tx t) ps q tx moment ∙ ap (edited tx moment q (deletes_edits ps)) (delete_view t p q tx moment) ∙ sym (edited_both tx moment q (delete_edits p) (deletes_edits ps) (node_view t q))
 
-passed_under : (v : View) (p : PathNames) (o : Option Node) → check_under v p false o ≡ None → (is_some o ≡ true) × (is_some (v.node p) ≡ false)
-passed_under v p None e = absurd (cc)
-passed_under v p (Some d) e = (refl, step (is_some (v.node p)) code.NodeExists e)
-  where
-    step : (b : Bool) (x : Code) → cond b (Some x) (cond (eqb d.owner 0) None (Some code.NoChildrenForEphemerals)) ≡ None → b ≡ false
-    step true x e = absurd (cc)
-    step false x e = refl
+-- A MULTI
+abbrev AllAlike : Nodes → View → Type 0
+AllAlike t v = (q : PathNames) → AreAlike (node_view t q) (v.node q)
 
--- a create that passes is of a free path under a node
-passed_create : (v : View) (p : PathNames) → check_create v p false ≡ None → (is_root p ≡ false) × ((is_some (v.node (parent p)) ≡ true) × (is_some (v.node p) ≡ false))
-passed_create v [] e = absurd (cc)
-passed_create v (n ∷ p) e = (refl, passed_under v (n ∷ p) (v.node (parent (n ∷ p))) e)
+part_stands : (a : Applied) (p : Part) (m : Made) (t : Nodes) (v : View) → HasParents t → AllAlike t v → check_part v p ≡ None → m ≡ fill_part v p
+    → IsEdited a.tx a.moment t (apply_part a p m t) (λ q. edited a.tx a.moment q (part_edits a.session p m))
+part_stands a (part.Create p bytes eph) m t v h l c e =
+    let passed : Passes v p p = passed_create v p false c in
+    let name : m.name ≡ p = ap (λ n. n.name) e in
+    subst (λ x. IsEdited a.tx a.moment t (create_node x bytes (owner_for a.session eph) a.tx a.moment t) (λ q. edited a.tx a.moment q (create_edits x bytes (owner_for a.session eph)))) (sym name)
+    (created t p bytes (owner_for a.session eph) a.tx a.moment h passed.child (ap (λ n. eqb n 0) (owner_alike (node_view t (parent p)) (v.node (parent p)) (l (parent p))) ∙ passed.open_parent) (some_alike (node_view t p) (v.node p) (l p) ∙ passed.free))
+part_stands a (part.Set p bytes version) m t v h l c e = (λ q. set_view t p q bytes a.tx a.moment, set_keeps t p bytes a.tx a.moment h)
+part_stands a (part.Delete p version) m t v h l c e = (λ q. delete_view t p q a.tx a.moment, delete_keeps t p a.tx h (passed_delete t p version (delete_alike p version (node_view t p) (v.node p) (l p) ∙ c)))
 
-abbrev names_of : Option Node → List Name
-names_of None = []
-names_of (Some n) = n.names
+parts_stand : (a : Applied) (ps : List Part) (ms : List Made) (t : Nodes) (v : View) (place : ℕ) → HasParents t → AllAlike t v → check_parts v a.session place ps ≡ None → ms ≡ fill_parts v a.session ps
+    → IsEdited a.tx a.moment t (apply_parts a ps ms t) (λ q. edited a.tx a.moment q (parts_edits a.session ps ms))
+parts_stand a [] ms t v place h l c e = (λ q. refl, h)
+parts_stand a (p ∷ ps) [] t v place h l c e = absurd (cc)
+parts_stand a (p ∷ ps) (m ∷ ms) t v place h l c e =
+    let first : m ≡ fill_part v p = cc in
+    let rest : ms ≡ fill_parts (after_part v a.session p) a.session ps = cc in
+    let passed : check_part v p ≡ None = placed_none place (check_part v p) (first_none (at_place place (check_part v p)) (check_parts (after_part v a.session p) a.session (suc place) ps) c) in
+    let one : IsEdited a.tx a.moment t (apply_part a p m t) (λ q. edited a.tx a.moment q (part_edits a.session p m)) = part_stands a p m t v h l passed first in
+    let alike : AllAlike (apply_part a p m t) (after_part v a.session p) = (λ q. subst (λ o. AreAlike o ((after_part v a.session p).node q)) (sym (one.0 q)) (subst (λ n. AreAlike (edited a.tx a.moment q (part_edits a.session p m) (node_view t q)) (edited 0 0 q (part_edits a.session p n) (v.node q))) first (edited_alike a.tx a.moment q (part_edits a.session p m) (node_view t q) (v.node q) (l q)))) in
+    let others : IsEdited a.tx a.moment (apply_part a p m t) (apply_parts a ps ms (apply_part a p m t)) (λ q. edited a.tx a.moment q (parts_edits a.session ps ms)) = parts_stand a ps ms (apply_part a p m t) (after_part v a.session p) (suc place) one.1 alike (second_none (at_place place (check_part v p)) (check_parts (after_part v a.session p) a.session (suc place) ps) c) rest in
+    (λ q. others.0 q ∙ ap (edited a.tx a.moment q (parts_edits a.session ps ms)) (one.0 q) ∙ sym (edited_both a.tx a.moment q (part_edits a.session p m) (parts_edits a.session ps ms) (node_view t q)), others.1)
 
--- a node whose delete passes has no child
-passed_delete : (p : PathNames) (expected : ℤ) (o : Option Node) → check_delete p expected o ≡ None → names_of o ≡ []
-passed_delete p expected None e = refl
-passed_delete p expected (Some m) e = none m.names (step (is_version expected m.version) (has_names m.names) e)
-  where
-    none : (ns : List Name) → has_names ns ≡ false → ns ≡ []
-    none [] h = refl
-    none (n ∷ ns) h = absurd (false≢true (sym h))
-
-    step : (b c : Bool) → cond b (cond (c || is_root p) (Some code.NotEmpty) None) (Some code.BadVersion) ≡ None → c ≡ false
-    step true true e = absurd (cc)
-    step true false e = refl
-    step false c e = absurd (cc)
-
-passed_check_delete : (p : PathNames) (expected : ℤ) (o : Option Node) → check_delete p expected o ≡ None → is_some o ≡ true
-passed_check_delete p expected None e = absurd (cc)
-passed_check_delete p expected (Some n) e = refl
-
-no_child_there : (t : Nodes) (p : PathNames) → is_some (node_view t p) ≡ true → names_of (node_view t p) ≡ [] → (n : Name) → is_some (get t (p ++ n ∷ [])) ≡ false
-no_child_there t p s e n = sym (has_children t p n) ∙ ap (has_name n) (children_none (get t p) s e)
-  where
-    children_none : (o : Option Bare) → is_some (map_some (with_names (children t p)) o) ≡ true → names_of (map_some (with_names (children t p)) o) ≡ [] → children t p ≡ []
-    children_none None s e = absurd (false≢true s)
-    children_none (Some b) s e = e
-
--- what a plain request that passes leaves at a path
-plain_view : (t : Nodes) (c : ℕ → Bool) (a : Applied) (r : Request) → IsPlain r → HasParents t → check_open (record { node = node_view t; closed = c }) a.session r ≡ None → a.name ≡ fill_name (record { node = node_view t; closed = c }) r
-    → (q : PathNames) → node_view (apply_nodes a r t) q ≡ edited a.tx a.moment q (effects_of a r) (node_view t q)
-plain_view t c a (request.Create p bytes true eph) plain h e n q = absurd (false≢true (sym plain))
-plain_view t c a (request.Create p bytes false eph) plain h e n q =
-    let passed : (is_root p ≡ false) × ((is_some (node_view t (parent p)) ≡ true) × (is_some (node_view t p) ≡ false)) = passed_create (record { node = node_view t; closed = c }) p (placed_none _ e) in
-    subst (λ x. node_view (create_node x bytes (owner_for a.session eph) a.tx a.moment t) q ≡ edited a.tx a.moment q (create_edits x bytes (owner_for a.session eph)) (node_view t q)) (sym n)
-    (create_view t p q bytes (owner_for a.session eph) a.tx a.moment h passed.0 (sym (some_view t p) ∙ passed.1.1))
-plain_view t c a (request.Set p bytes version) plain h e n q = set_view t p q bytes a.tx a.moment
-plain_view t c a (request.Delete p version) plain h e n q = delete_view t p q a.tx a.moment
-plain_view t c a (request.Close evict) plain h e n q = absurd plain
-plain_view t c a (request.Multi ps) plain h e n q = absurd plain
-
-plain_keeps : (t : Nodes) (c : ℕ → Bool) (a : Applied) (r : Request) → IsPlain r → HasParents t → check_open (record { node = node_view t; closed = c }) a.session r ≡ None → a.name ≡ fill_name (record { node = node_view t; closed = c }) r → HasParents (apply_nodes a r t)
-plain_keeps t c a (request.Create p bytes true eph) plain h e n = absurd (false≢true (sym plain))
-plain_keeps t c a (request.Create p bytes false eph) plain h e n =
-    let passed : (is_root p ≡ false) × ((is_some (node_view t (parent p)) ≡ true) × (is_some (node_view t p) ≡ false)) = passed_create (record { node = node_view t; closed = c }) p (placed_none _ e) in
-    subst (λ x. HasParents (create_node x bytes (owner_for a.session eph) a.tx a.moment t)) (sym n)
-    (create_keeps t p bytes (owner_for a.session eph) a.tx a.moment h passed.0 (sym (some_view t (parent p)) ∙ passed.1.0))
-plain_keeps t c a (request.Set p bytes version) plain h e n = set_keeps t p bytes a.tx a.moment h
-plain_keeps t c a (request.Delete p version) plain h e n =
-    let passed : check_delete p version (node_view t p) ≡ None = placed_none _ e in
-    delete_keeps t p a.tx h (no_child_there t p (passed_check_delete p version (node_view t p) passed) (passed_delete p version (node_view t p) passed))
-plain_keeps t c a (request.Close evict) plain h e n = absurd plain
-plain_keeps t c a (request.Multi ps) plain h e n = absurd plain
-
-plain_stays_open : (r : Request) → IsPlain r → closes r ≡ false
-plain_stays_open (request.Create p bytes seq eph) plain = refl
-plain_stays_open (request.Set p bytes version) plain = refl
-plain_stays_open (request.Delete p version) plain = refl
-plain_stays_open (request.Close evict) plain = absurd plain
-plain_stays_open (request.Multi ps) plain = absurd plain
-
--- rows with what the edits leave show the nodes after the request
-rows_show : (rows others : List Row) (closed : List ℕ) (a : Applied) → IsPlain a.request → IsKept rows → IsFilled (tree_of rows closed) a → AreEdited a.tx a.moment (effects a) rows others → (q : PathNames) → row_node q others ≡ node_view (apply_nodes a a.request (nodes_of rows)) q
-rows_show rows others closed a plain k f w q =
-    w q
-    ∙ ap (edited a.tx a.moment q (effects a)) (k.named q)
-    ∙ sym (plain_view (nodes_of rows) (λ s. is_in s closed) a a.request plain k.parents (passed_open (look (tree_of rows closed)) a.session a.request f.passes) (ap (λ b. b.name) f.filled) q)
-
-pub applied_kept : (rows others : List Row) (closed : List ℕ) (a : Applied) → IsPlain a.request → IsKept rows → IsFilled (tree_of rows closed) a → AreEdited a.tx a.moment (effects a) rows others → IsKept others
-applied_kept rows others closed a plain k f w =
-    is_kept others (apply_nodes a a.request (nodes_of rows)) (rows_show rows others closed a plain k f w)
-    (plain_keeps (nodes_of rows) (λ s. is_in s closed) a a.request plain k.parents (passed_open (look (tree_of rows closed)) a.session a.request f.passes) (ap (λ b. b.name) f.filled))
-
-pub applied_tree : (rows others : List Row) (closed : List ℕ) (a : Applied) → IsPlain a.request → IsKept rows → IsFilled (tree_of rows closed) a → AreEdited a.tx a.moment (effects a) rows others → tree_of others closed ≡ apply (tree_of rows closed) a
-applied_tree rows others closed a plain k f w = λ i. record { nodes = same i; closed = unchanged i }
-  where
-    same : nodes_of others ≡ apply_nodes a a.request (nodes_of rows)
-    same = keeps_tree others (apply_nodes a a.request (nodes_of rows)) (rows_show rows others closed a plain k f w)
-
-    unchanged : closed ≡ cond (closes a.request) (a.session ∷ closed) closed
-    unchanged = rw (plain_stays_open a.request plain) refl
-
--- THE START
-start_get : (q : PathNames) → get start_tree.nodes q ≡ cond (same_path q []) (Some root_node) None
-start_get q = get-insert path_total empty [] root_node q ∙ ap (cond (same_path q []) (Some root_node)) (get-empty path_cmp q)
-
-start_child : (q : PathNames) (n : Name) → is_some (get start_tree.nodes (q ++ n ∷ [])) ≡ false
-start_child q n = rw (start_get (q ++ n ∷ []), child_not_root q n) refl
-
-start_node : (q : PathNames) → cond (same_path q []) (Some (with_names [] root_node)) None ≡ node_view start_tree.nodes q
-start_node [] = rw (children_of start_tree.nodes [] [] refl (start_child []), start_get []) refl
-start_node (x ∷ q) = rw (start_get (x ∷ q)) refl
-
-pub start_kept : IsKept (record { path = []; node = Some (with_names [] root_node) } ∷ [])
-start_kept = record { named = start_node; parents = λ q n s. absurd (false≢true (sym (start_child q n) ∙ s)) }
+-- ANY REQUEST
+-- a request that passes and is filled
+pub stands : (t : Tree) (a : Applied) (r : Request) → HasParents t.nodes → 0 < a.session → check_open (look t) a.session r ≡ None → a ≡ fill t a.tx a.moment a.session a.k r
+    → IsEdited a.tx a.moment t.nodes (apply_nodes a r t.nodes) (λ q. edited a.tx a.moment q (effects_of a r))
+stands t a (request.Create p bytes seq eph) h s c e =
+    let final : PathNames = final_path p seq (made_of (node_view t.nodes (parent p))) in
+    let passed : Passes (look t) p final = passed_create (look t) p seq (placed_none 0 (check_create (look t) p seq) c) in
+    let name : a.name ≡ final = ap (λ b. b.name) e in
+    subst (λ x. IsEdited a.tx a.moment t.nodes (create_node x bytes (owner_for a.session eph) a.tx a.moment t.nodes) (λ q. edited a.tx a.moment q (create_edits x bytes (owner_for a.session eph)))) (sym name)
+    (created t.nodes final bytes (owner_for a.session eph) a.tx a.moment h (final_child p seq (made_of (node_view t.nodes (parent p))) passed.child) (ap (λ d. eqb (owner_in (node_view t.nodes d)) 0) (final_parent p seq (made_of (node_view t.nodes (parent p)))) ∙ passed.open_parent) passed.free)
+stands t a (request.Set p bytes version) h s c e = (λ q. set_view t.nodes p q bytes a.tx a.moment, set_keeps t.nodes p bytes a.tx a.moment h)
+stands t a (request.Delete p version) h s c e = (λ q. delete_view t.nodes p q a.tx a.moment, delete_keeps t.nodes p a.tx h (passed_delete t.nodes p version (placed_none 0 _ c)))
+stands t a (request.Close evict) h s c e =
+    let gone : a.gone ≡ owned t.nodes a.session = ap (λ b. b.gone) e in
+    (λ q. deletes_view t.nodes a.gone q a.tx a.moment, deletes_keep t.nodes a.gone a.tx h (λ p m. owned_unfree t.nodes a.session p s (subst (λ ps. has_path p ps ≡ true) gone m)))
+stands t a (request.Multi ps) h s c e = parts_stand a ps a.made t.nodes (look t) 1 h (λ q. refl) c (ap (λ b. b.made) e)

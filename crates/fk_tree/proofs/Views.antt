@@ -1,5 +1,5 @@
 -- What a tree shows after a change of its nodes: path by path, what the edits of that path leave.
-use Rattle.std.proofs.Common.{◌≡◌, ℕ, Bool, true, false, cond, ◌&&◌, ◌||◌, T, List, [], ◌∷◌, ◌++◌, Option, Some, None, refl, sym, ◌∙◌, ap, subst, arith}
+use Rattle.std.proofs.Common.{◌≡◌, ℕ, Bool, true, false, cond, eqb, ◌&&◌, ◌||◌, T, List, [], ◌∷◌, ◌++◌, Option, Some, None, refl, sym, ◌∙◌, ap, subst, arith}
 use Rattle.std.specs.Prelude.{is_some}
 use Rattle.std.specs.Ordering.{is_lt}
 use Rattle.std.specs.FinMap.{get, insert, entries, find, is_sorted, get-entries, entries_sorted, get-insert}
@@ -10,7 +10,7 @@ use Rattle.fk_tree.specs.declared.edit.What.TheVariants as what
 use Rattle.fk_tree.specs.Sorted.{has_name, add_name, is_below, rises}
 use Rattle.fk_tree.specs.Tree.{Bare, Nodes, name_under, with_first, names_under, children, with_names, map_some, node_view, fresh}
 use Rattle.fk_tree.specs.Edit.{edit, edited, create_edits, set_edits}
-use Rattle.fk_tree.specs.Rows.{HasParents}
+use Rattle.fk_tree.specs.Rows.{HasParents, is_free}
 use Rattle.fk_tree.specs.Apply.{grown, replaced, put_some, at_path, create_node, set_node}
 use Rattle.fk_tree.proofs.Order.{by_test, tested, tested_left, tested_right, name_total, name_exact, path_total, same_path_is, names_it, child_is, child_order, name_under_is, same_child, child_apart, child_parts}
 use Rattle.fk_tree.proofs.Rising.{same_rising, has_with, rises_with}
@@ -85,10 +85,24 @@ set_view t p q bytes tx moment = rw (children_at_path p (replaced bytes tx momen
     step true ns (Some n) = refl
     step false ns o = refl
 
+-- a node that no session owns is there
+pub free_some : (o : Option Bare) → is_free o ≡ true → is_some o ≡ true
+free_some None e = e
+free_some (Some b) e = refl
+
+-- a change of a node that keeps its owner
+pub free_at_path : (p : PathNames) (f : Bare → Bare) (t : Nodes) (q : PathNames) → ((b : Bare) → (f b).owner ≡ b.owner) → is_free (get (at_path p f t) q) ≡ is_free (get t q)
+free_at_path p f t q k = rw (get_at_path p f t q) (step (same_path q p) (get t q))
+  where
+    step : (b : Bool) (o : Option Bare) → is_free (cond b (map_some f o) o) ≡ is_free o
+    step true None = refl
+    step true (Some x) = ap (λ n. eqb n 0) (k x)
+    step false o = refl
+
 -- CREATE
 -- a missing path has no child
 pub no_child : (t : Nodes) → HasParents t → (p : PathNames) (n : Name) → is_some (get t p) ≡ false → is_some (get t (p ++ n ∷ [])) ≡ false
-no_child t h p n e = by_test (is_some (get t (p ++ n ∷ []))) (λ b. b ≡ false) (λ s. sym (h p n s) ∙ e) (λ _. refl)
+no_child t h p n e = by_test (is_some (get t (p ++ n ∷ []))) (λ b. b ≡ false) (λ s. sym (free_some (get t p) (h p n s)) ∙ e) (λ _. refl)
 
 -- the nodes after a create of the child x of d
 abbrev pub with_node : Nodes → PathNames → Name → Bare → ℕ → Nodes

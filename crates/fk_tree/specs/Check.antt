@@ -1,5 +1,5 @@
 -- Which requests are refused, with which code: the first check that fails.
-use Rattle.std.specs.Prelude.{◌≡◌, ℕ, suc, ℤ, negsuc, pos, ◌==◌, Bool, true, false, if◌then◌else◌, ◌||◌, List, [], ◌∷◌, Option, Some, None, is_some}
+use Rattle.std.specs.Prelude.{◌≡◌, ◌≤◌, ℕ, suc, ℤ, negsuc, pos, ◌==◌, Bool, true, false, if◌then◌else◌, ◌||◌, List, [], ◌∷◌, Option, Some, None, is_some, length}
 use Rattle.std.specs.Ordering.{int_eq}
 use Rattle.fk_base.specs.Path.{Name, PathNames, parent, is_root}
 use Rattle.fk_base.specs.declared.code.Code.{Code}
@@ -82,10 +82,10 @@ abbrev pub IsFault : CheckFault → Option Refusal → Type 0
 IsFault (fault.Refused c place) o = o ≡ Some (record { code = c; place = place })
 IsFault fault.NoMemory o = Unit {0}
 
--- a create that isn't sequential, a set or a delete
-abbrev pub IsPlain : Request → Type 0
-IsPlain (request.Create p bytes seq eph) = seq ≡ false
-IsPlain (request.Set p bytes version) = Unit {0}
-IsPlain (request.Delete p version) = Unit {0}
-IsPlain (request.Close evict) = ⊥
-IsPlain (request.Multi ps) = ⊥
+-- a multi of at most sixteen parts, or another request
+abbrev pub HasFewParts : Request → Type 0
+HasFewParts (request.Create p bytes seq eph) = Unit {0}
+HasFewParts (request.Set p bytes version) = Unit {0}
+HasFewParts (request.Delete p version) = Unit {0}
+HasFewParts (request.Close evict) = Unit {0}
+HasFewParts (request.Multi ps) = length ps ≤ 16

@@ -7,6 +7,7 @@ pub mod Locks
 pub mod Rows
 pub mod Sorted
 pub mod Touch
+pub mod Touching
 pub mod Tree
 pub mod View
 pub mod Watch

@@ -1,7 +1,8 @@
 //! The names of a node's children, which are sorted by their bytes.
 
-ghost use Rattle.std.specs.Prelude.{◌≡◌, ◌≤◌, length, OnOk, OnErr, false};
-ghost use Rattle.fk_tree.specs.Sorted.{add_name, drop_name, found_from, has_name, place_from};
+ghost use Rattle.std.specs.Prelude.{◌≡◌, ◌≤◌, ◌<◌, length, insert, remove, MatchResult, OnOk, OnErr, true, false};
+ghost use Rattle.fk_base.specs.Path.{name_cmp};
+ghost use Rattle.fk_tree.specs.Sorted.{add_name, drop_name, found_from, has_name, place_from, rises};
 
 use fk_base::{Names, NoMemory, Text};
 use std::cmp::Ordering;
@@ -50,4 +51,41 @@ pub fn drop_name(names: &mut Names, name: &Text)
     'dropping: while let Some(place) = place_of(names.as_slice(), name) {
         names.remove(place);
     }
+}
+
+/// The place of the first name that isn't below this one, among names that rise.
+#[tactic(auto, using(crate::proofs::Seeking::place_low, crate::proofs::Seeking::place_high))]
+pub fn sorted_place(names: &[Text], name: &Text) -> usize
+    requires { rises name_cmp names.now ≡ true }
+    ensures { result ≡ place_from 0 name.now names.now }
+{
+    let mut low = 0;
+    let mut high = names.len();
+    'halving: while low < high {
+        let middle = low + (high - low) / 2;
+        if name.cmp(&names[middle]).is_gt() {
+            low = middle + 1;
+        } else {
+            high = middle;
+        }
+    }
+    low
+}
+
+/// Where a name stands among names that rise, or where it belongs.
+#[tactic(auto, using(crate::proofs::Seeking::absent_here, crate::proofs::Seeking::absent_end, crate::proofs::Seeking::present_here, crate::proofs::Seeking::place_in_list))]
+pub fn seek(names: &[Text], name: &Text) -> Result<usize, usize>
+    requires { rises name_cmp names.now ≡ true }
+    ensures within { MatchResult result (λ i. i < length names.now) (λ i. i ≤ length names.now) }
+    ensures place { MatchResult result (λ i. i ≡ place_from 0 name.now names.now) (λ i. i ≡ place_from 0 name.now names.now) }
+    ensures there { MatchResult result (λ i. has_name name.now names.now ≡ true) (λ i. has_name name.now names.now ≡ false) }
+{
+    let place = sorted_place(names, name);
+    let Some(other) = names.get(place) else {
+        return Err(place);
+    };
+    if name.cmp(other).is_eq() {
+        return Ok(place);
+    }
+    Err(place)
 }

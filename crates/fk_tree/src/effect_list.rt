@@ -40,14 +40,14 @@ pub fn effects(alloc: Global, applied: &Applied) -> Result<Edits, NoMemory>
 }
 
 // the owner of a node that a session makes
-fn owner(session: u32, eph: bool) -> u32
+pub fn owner(session: u32, eph: bool) -> u32
     ensures { result ≡ owner_for session eph }
 {
     if eph { session } else { 0 }
 }
 
 // the parent and the last name, which the root doesn't have
-fn parent_and_name(path: &Path) -> Result<Option<(Path, Text)>, NoMemory>
+pub fn parent_and_name(path: &Path) -> Result<Option<(Path, Text)>, NoMemory>
     ensures { IfOk result (λ o. MatchOption o (is_root path.now ≡ true)
         (λ c. (is_root path.now ≡ false) × (c.0 ≡ parent path.now) × (c.1 ≡ last_name path.now))) }
 {
@@ -125,7 +125,7 @@ fn push_deletes(edits: &mut Edits, paths: &[Path]) -> Result<(), NoMemory>
     Ok(())
 }
 
-fn push_part(edits: &mut Edits, session: u32, part: &Part, made: &Made) -> Result<(), NoMemory>
+pub fn push_part(edits: &mut Edits, session: u32, part: &Part, made: &Made) -> Result<(), NoMemory>
     ensures { OnOk result (edits.new ≡ edits.old ++ part_edits session part.now made.now) }
 {
     match part {

@@ -4,20 +4,28 @@
 
 mod applied;
 mod change;
+mod checking;
 mod child_names;
+mod codes;
 mod edit;
 mod effect_list;
 mod fault;
+mod filling;
 mod lists;
 mod node;
 mod node_edit;
+mod owners;
+mod parts;
 mod replies;
 mod reply;
 mod request;
-mod rows;
+mod sequence;
+mod slots;
 #[cfg(test)]
 mod tests;
+mod touch_list;
 mod tree;
+mod writes;
 
 pub use applied::{Applied, Made};
 pub use change::{Change, Kind, Touch};
@@ -29,4 +37,5 @@ pub use node::{Node, Stat};
 pub use node_edit::edit_node;
 pub use reply::{Answer, PartReply, Reply};
 pub use request::{Part, Query, Request};
+pub use touch_list::touched;
 pub use tree::Tree;

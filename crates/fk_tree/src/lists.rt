@@ -239,6 +239,10 @@ impl Edits {
         Ok(())
     }
 
+    pub(crate) fn allocator(&self) -> Global {
+        *self.items.allocator()
+    }
+
     pub fn as_slice(&self) -> &[Edit]
         ensures { result.now ≡ self.now }
     {

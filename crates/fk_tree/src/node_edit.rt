@@ -1,11 +1,13 @@
 //! One edit of one node.
 
-ghost use Rattle.std.specs.Prelude.{◌≡◌, [], IfOk, OnOk, OnErr};
+ghost use Rattle.std.specs.Prelude.{◌≡◌, [], true, IfOk, OnOk, OnErr};
+ghost use Rattle.fk_base.specs.Path.{name_cmp};
+ghost use Rattle.fk_tree.specs.Rows.{names_of};
 ghost use Rattle.fk_tree.specs.Edit.{edit, with_bytes, with_child, without_child};
-ghost use Rattle.fk_tree.specs.Sorted.{has_name};
+ghost use Rattle.fk_tree.specs.Sorted.{has_name, rises};
 ghost use Rattle.fk_tree.specs.Tree.{fresh, map_some, up, with_names};
 
-use crate::child_names::{add_name, drop_name, place_of};
+use crate::child_names::{add_name, drop_name, place_of, seek};
 use crate::edit::{Edit, What};
 use crate::node::Node;
 use fk_base::{Bytes, Names, NoMemory, Text};
@@ -39,7 +41,7 @@ pub fn edit_node(
     }
 }
 
-fn fresh_node(bytes: &Bytes, owner: u32, tx: u64, moment: u64) -> Result<Node, NoMemory>
+pub fn fresh_node(bytes: &Bytes, owner: u32, tx: u64, moment: u64) -> Result<Node, NoMemory>
     ensures { IfOk result (λ n. n ≡ with_names [] (fresh bytes.now owner tx moment)) }
 {
     Ok(Node {
@@ -57,7 +59,7 @@ fn fresh_node(bytes: &Bytes, owner: u32, tx: u64, moment: u64) -> Result<Node, N
     })
 }
 
-fn replace(node: &mut Option<Node>, bytes: &Bytes, tx: u64, moment: u64) -> Result<(), NoMemory>
+pub fn replace(node: &mut Option<Node>, bytes: &Bytes, tx: u64, moment: u64) -> Result<(), NoMemory>
     ensures ok { OnOk result (node.new ≡ map_some (with_bytes bytes.now tx moment) node.old) }
     ensures err { OnErr result (node.new ≡ node.old) }
 {
@@ -98,6 +100,40 @@ fn drop_child(node: &mut Option<Node>, name: &Text, tx: u64)
     }
     drop_name(&mut node.names, name);
     note_child(node, tx);
+}
+
+/// A child came to a node whose child names rise.
+#[tactic(auto, using(crate::proofs::Sorting::put_at_place))]
+pub fn add_sorted(node: &mut Option<Node>, name: &Text, tx: u64) -> Result<(), NoMemory>
+    requires { rises name_cmp (names_of node.old) ≡ true }
+    ensures ok { OnOk result (node.new ≡ map_some (with_child name.now tx) node.old) }
+    ensures err { OnErr result (node.new ≡ node.old) }
+{
+    let Some(node) = node else {
+        return Ok(());
+    };
+    let Err(place) = seek(node.names.as_slice(), name) else {
+        return Ok(());
+    };
+    node.names.insert(place, name.copy()?)?;
+    node.made = up(node.made);
+    note_child(node, tx);
+    Ok(())
+}
+
+/// A child went from a node whose child names rise.
+#[tactic(auto, using(crate::proofs::Seeking::removed_at_place))]
+pub fn drop_sorted(node: &mut Option<Node>, name: &Text, tx: u64)
+    requires { rises name_cmp (names_of node.old) ≡ true }
+    ensures { node.new ≡ map_some (without_child name.now tx) node.old }
+{
+    let Some(node) = node else {
+        return;
+    };
+    if let Ok(place) = seek(node.names.as_slice(), name) {
+        node.names.remove(place);
+        note_child(node, tx);
+    }
 }
 
 // a child came or went
