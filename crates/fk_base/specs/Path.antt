@@ -50,10 +50,10 @@ last_name (n ∷ m ∷ q) = last_name (m ∷ q)
 abbrev pub is_barred_byte : ℕ → Bool
 is_barred_byte c = nat_le c 32 || (c == 47) || (c == 127)
 
--- the first byte of U+0080 to U+009F, whose second byte is 80 to 9F
+-- the first byte of U+0080 to U+009F, whose second byte is at most 9F
 abbrev pub is_barred_pair : ℕ → List ℕ → Bool
 is_barred_pair c [] = false
-is_barred_pair c (d ∷ ds) = (c == 194) && nat_le 128 d && nat_le d 159
+is_barred_pair c (d ∷ ds) = (c == 194) && nat_le d 159
 
 -- whether a character stands there that no name has
 abbrev pub has_barred : List ℕ → Bool

@@ -50,7 +50,7 @@ fn is_barred_pair(first: u8, rest: &[u8]) -> bool
 {
     match rest {
         [] => false,
-        [second, ..] => first == 0xC2 && *second >= 0x80 && *second <= 0x9F,
+        [second, ..] => first == 0xC2 && *second <= 0x9F,
     }
 }
 
