@@ -1,0 +1,5 @@
+pub mod Answers
+pub mod Conds
+pub mod Locks
+pub mod Meaning
+pub mod Writes
