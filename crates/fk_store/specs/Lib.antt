@@ -2,4 +2,5 @@ pub mod Answers
 pub mod Conds
 pub mod Locks
 pub mod Meaning
+pub mod Rows
 pub mod Writes

@@ -8,6 +8,7 @@ mod cond;
 mod lock;
 mod node_record;
 mod outcome;
+mod rows;
 mod session_record;
 mod table;
 mod write;
