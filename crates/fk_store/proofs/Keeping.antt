@@ -35,7 +35,7 @@ none_placed p rs e = sym (placed_where_there 0 p rs) ∙ ap is_some e
 pub some_placed : (p : PathNames) (rs : List Row) → is_some (row_from 0 p rs) ≡ true → has_row p rs ≡ true
 some_placed p rs e = sym (placed_where_there 0 p rs) ∙ e
 
-placed_later : (p : PathNames) (rs : List Row) (i k : ℕ) → row_from (suc i) p rs ≡ Some k → (j : ℕ) × (k ≡ suc j) × (row_from i p rs ≡ Some j)
+pub placed_later : (p : PathNames) (rs : List Row) (i k : ℕ) → row_from (suc i) p rs ≡ Some k → (j : ℕ) × (k ≡ suc j) × (row_from i p rs ≡ Some j)
 placed_later p [] i k e = absurd (cc)
 placed_later p (r ∷ rs) i k e = step (same_path p r.path) e (placed_later p rs (suc i) k)
   where

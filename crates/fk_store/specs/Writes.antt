@@ -43,6 +43,11 @@ record_by _ o = o
 abbrev pub record_after : Write → PathNames → Option NodeRecord → Option NodeRecord
 record_after w p o = if is_of_path p w then record_by w o else o
 
+-- what these writes, in their order, make of the record of a path
+abbrev pub records_written : PathNames → List Write → Option NodeRecord → Option NodeRecord
+records_written p [] o = o
+records_written p (w ∷ ws) o = records_written p ws (record_after w p o)
+
 -- RECORDS OF SESSIONS
 -- the list without the number
 abbrev pub without : ℕ → List ℕ → List ℕ
@@ -72,10 +77,19 @@ session_by _ r = r
 abbrev pub session_after : Write → ℕ → SessionRecord → SessionRecord
 session_after w s r = if is_of_session s w then session_by w r else r
 
+-- what these writes, in their order, make of the record of a session
+abbrev pub session_written : ℕ → List Write → SessionRecord → SessionRecord
+session_written s [] r = r
+session_written s (w ∷ ws) r = session_written s ws (session_after w s r)
+
 -- THE TABLE
 abbrev pub done_after : Write → ℕ → ℕ
 done_after (write.Done n) d = n
 done_after _ d = d
+
+abbrev pub done_written : List Write → ℕ → ℕ
+done_written [] d = d
+done_written (w ∷ ws) d = done_written ws (done_after w d)
 
 -- the table after a write
 abbrev pub written : Write → Meaning → Meaning

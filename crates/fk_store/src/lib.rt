@@ -5,11 +5,13 @@
 
 mod answer;
 mod cond;
+mod draft;
 mod lock;
 mod node_record;
 mod outcome;
 mod rows;
 mod session_record;
+mod sessions;
 mod table;
 mod write;
 
