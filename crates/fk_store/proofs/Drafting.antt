@@ -5,9 +5,10 @@ use Rattle.fk_tree.proofs.Order.{by_test, same_path_is, same_path_self}
 use Rattle.fk_store.specs.declared.node_record.NodeRecord.{NodeRecord}
 use Rattle.fk_store.specs.declared.rows.Row.{Row}
 use Rattle.fk_store.specs.declared.write.Write.{Write}
+use Rattle.fk_store.specs.declared.write.Write.TheVariants as write
 use Rattle.fk_store.specs.Rows.{row_record, row_from}
-use Rattle.fk_store.specs.Writes.{is_of_path, record_by, record_after, records_written}
-use Rattle.fk_store.proofs.Keeping.{put_over, placed_later}
+use Rattle.fk_store.specs.Writes.{grant_record, is_of_path, record_by, record_after, records_written}
+use Rattle.fk_store.proofs.Keeping.{over_none, put_over, placed_later}
 
 -- STAGING
 -- a new row of a path that had none stands at the end
@@ -53,6 +54,14 @@ drafted p q w ds rs k d o f e h =
     ∙ rw (← placed_path q ds k d e, f p, h, ← placed_kept q ds rs k d e)
     (by_test (same_path p q) (λ b. cond b (record_by w (row_record q (ds ++ rs))) (row_record p (ds ++ rs)) ≡ cond b (record_by w (row_record p (ds ++ rs))) (row_record p (ds ++ rs)))
     (λ s. ap (λ x. record_by w (row_record x (ds ++ rs))) (sym (same_path_is p q s))) (λ _. refl))
+
+-- a grant in the row of its path
+pub granted : (p q : PathNames) (inv moment : ℕ) (rs : List Row) (k : ℕ) (d : Row) (o : Option NodeRecord) → row_from 0 q rs ≡ Some k → o ≡ grant_record inv moment (get_or rs k d).kept
+    → row_record p (set rs k (record { path = (get_or rs k d).path; kept = o })) ≡ cond (same_path p q) (grant_record inv moment (row_record p rs)) (row_record p rs)
+granted p q inv moment rs k d o e h =
+    ap (row_record p) (sym (over_none (set rs k (record { path = (get_or rs k d).path; kept = o }))))
+    ∙ drafted p q (write.Grant q inv moment) rs [] k d o (λ _. refl) e h
+    ∙ ap (λ xs. cond (same_path p q) (grant_record inv moment (row_record p xs)) (row_record p xs)) (over_none rs)
 
 pub records_step : (p : PathNames) (ws : List Write) (i : ℕ) (w : Write) (o : Option NodeRecord) → i < length ws → w ≡ get_or ws i w → records_written p (drop i ws) o ≡ records_written p (drop (i + 1) ws) (record_after w p o)
 records_step p ws i w o l s = step (i + 1) (omega arith)

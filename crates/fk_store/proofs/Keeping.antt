@@ -120,7 +120,7 @@ put_over p (s ∷ rs) base r k e = step (same_path r.path s.path) refl e (put_ov
     step true b e f = let first : k ≡ 0 = cc in rw first (here (same_path_is r.path s.path b))
     step false b e f = let later : (j : ℕ) × (k ≡ suc j) × (row_from 0 r.path rs ≡ Some j) = placed_later r.path rs 0 k e in behind later.0 b later.1 (f later.0 later.2)
 
-over_none : (rs : List Row) → rs ++ [] ≡ rs
+pub over_none : (rs : List Row) → rs ++ [] ≡ rs
 over_none [] = refl
 over_none (r ∷ rs) = ap (λ xs. r ∷ xs) (over_none rs)
 

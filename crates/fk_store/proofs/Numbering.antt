@@ -1,14 +1,16 @@
 -- Records of sessions, and what writes make of them, one by one.
-use Rattle.std.proofs.Common.{◌≡◌, ℕ, suc, ◌+◌, ◌<◌, ◌==◌, Bool, true, false, cond, List, [], ◌∷◌, ◌++◌, Option, Some, None, length, take, drop, get_or, refl, sym, ◌∙◌, ap, subst, arith, drop-cons}
+use Rattle.std.proofs.Common.{◌≡◌, ℕ, zero, suc, ◌+◌, ◌<◌, ◌==◌, ◌&&◌, nat_le, nat_lt, add-one, Bool, true, false, cond, List, [], ◌∷◌, ◌++◌, Option, Some, None, length, take, drop, get_or, refl, sym, ◌∙◌, ap, subst, arith, drop-cons}
 use Rattle.std.proofs.lemmas.List.{take_more, length-take-le}
 use Rattle.std.proofs.Math.Seq.{take-length}
 use Rattle.std.proofs.lemmas.Bool.{eqb-true}
+use Rattle.std.proofs.lemmas.Bool.Decides.{nat_tests}
 use Rattle.fk_tree.specs.Tree.{map_some}
 use Rattle.fk_tree.proofs.Order.{by_test}
 use Rattle.fk_store.specs.declared.session_record.SessionRecord.{SessionRecord}
 use Rattle.fk_store.specs.declared.write.Write.{Write}
 use Rattle.fk_store.specs.declared.write.Write.TheVariants as write
-use Rattle.fk_store.specs.Numbered.{session_at, session_from, sessions_written}
+use Rattle.fk_store.specs.Meaning.{new_session}
+use Rattle.fk_store.specs.Numbered.{session_at, new_sessions, session_from, sessions_written}
 use Rattle.fk_store.specs.Writes.{done_after, done_written, session_after, session_written, without}
 
 -- PENDING NUMBERS
@@ -59,3 +61,18 @@ written_from i s ws (r ∷ rs) =
 -- all of them were written
 pub written_at : (s : ℕ) (ws : List Write) (rs after : List SessionRecord) (i : ℕ) → i ≡ length rs → after ≡ sessions_written 1 ws (take i rs) → session_at s after ≡ map_some (session_written s ws) (session_at s rs)
 written_at s ws rs after i l e = ap (session_at s) (e ∙ ap (sessions_written 1 ws) (rw l (take-length rs))) ∙ written_from 1 s ws rs
+
+-- NEW ONES
+pub new_more : (count : ℕ) → new_sessions (count + 1) ≡ new_sessions count ++ new_session ∷ []
+new_more count = rw add-one (go count)
+  where
+    go : (count : ℕ) → new_sessions (suc count) ≡ new_sessions count ++ new_session ∷ []
+    go zero = refl
+    go (suc count) = ap (λ rs. new_session ∷ rs) (go count)
+
+new_from : (i s count : ℕ) → session_from i s (new_sessions count) ≡ cond (nat_le i s && nat_lt s (i + count)) (Some new_session) None
+new_from i s zero = grind (arith, nat_tests)
+new_from i s (suc count) = rw (new_from (suc i) s count) (grind (arith, nat_tests))
+
+pub new_at : (s count : ℕ) → session_at s (new_sessions count) ≡ cond (nat_le 1 s && nat_le s count) (Some new_session) None
+new_at s count = new_from 1 s count ∙ grind (arith, nat_tests)

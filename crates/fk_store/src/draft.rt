@@ -1,11 +1,11 @@
 //! What writes make of the records of paths: a draft of rows that stand over those of the table.
 
-ghost use Rattle.std.specs.Prelude.{◌≡◌, ◌++◌, false, Some, MatchOption, IfOk, OnOk, slice_index};
+ghost use Rattle.std.specs.Prelude.{◌≡◌, ◌++◌, true, false, if◌then◌else◌, Some, MatchOption, IfOk, OnOk, slice_index};
 ghost use Rattle.fk_base.specs.Path.{PathNames, same_path};
-ghost use Rattle.fk_store.specs.Rows.{row_from, row_record};
+ghost use Rattle.fk_store.specs.Rows.{has_row, row_from, row_record};
 ghost use Rattle.fk_store.specs.Writes.{change_record, grant_record, is_of_path, record_after, record_by, records_written, release_record};
 
-use crate::lock::Lock;
+use crate::lock::{Lock, UNLOCKED};
 use crate::node_record::NodeRecord;
 use crate::rows::{Row, place_of, record_in};
 use crate::write::Write;
@@ -13,14 +13,8 @@ use fk_base::{NoMemory, Path};
 use fk_tree::{Edit, edit_node};
 use std::alloc::Global;
 
-const UNLOCKED: Lock = Lock {
-    inv: 0,
-    moment: 0,
-    held: false,
-};
-
-/// Grants the lock of a path; one without a record gets one.
-pub fn grant(kept: &mut Option<NodeRecord>, inv: u64, moment: u64)
+// grants the lock of a path; one without a record gets one.
+fn grant(kept: &mut Option<NodeRecord>, inv: u64, moment: u64)
     ensures { kept.new ≡ grant_record inv moment kept.old }
 {
     let lock = Lock {
@@ -37,6 +31,17 @@ pub fn grant(kept: &mut Option<NodeRecord>, inv: u64, moment: u64)
                 last: 0,
             });
         }
+    }
+}
+
+/// Grants the lock of a path that has a row.
+#[tactic(auto, using(crate::proofs::Keeping::none_placed, crate::proofs::Keeping::place_within, crate::proofs::Drafting::granted))]
+pub fn grant_row(rows: &mut Vec<Row>, path: &Path, inv: u64, moment: u64)
+    requires { has_row path.now rows.old.items ≡ true }
+    ensures { (p : PathNames) → row_record p rows.new.items ≡ (if same_path p path.now then grant_record inv moment (row_record p rows.old.items) else row_record p rows.old.items) }
+{
+    if let Some(place) = place_of(rows.as_slice(), path) {
+        grant(&mut rows[place].kept, inv, moment);
     }
 }
 

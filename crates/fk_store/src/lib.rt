@@ -6,9 +6,11 @@
 mod answer;
 mod cond;
 mod draft;
+mod list_table;
 mod lock;
 mod node_record;
 mod outcome;
+mod owning;
 mod rows;
 mod session_record;
 mod sessions;
@@ -17,6 +19,7 @@ mod write;
 
 pub use answer::{Owned, Seen, Taken, Transact};
 pub use cond::{Cond, Found};
+pub use list_table::ListTable;
 pub use lock::{Lock, still};
 pub use node_record::NodeRecord;
 pub use outcome::Outcome;

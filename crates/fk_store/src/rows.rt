@@ -1,17 +1,49 @@
 //! The records of paths in rows.
 
-ghost use Rattle.std.specs.Prelude.{◌≡◌, ◌∷◌, ◌++◌, true, None, Some, MatchOption, OnOk};
+ghost use Rattle.std.specs.Prelude.{◌≡◌, [], ◌∷◌, ◌++◌, true, None, Some, MatchOption, OnOk};
 ghost use Rattle.fk_base.specs.Path.{PathNames};
+ghost use Rattle.fk_store.specs.Meaning.{root_record};
 ghost use Rattle.fk_store.specs.Rows.{has_row, row_from, row_record, rows_have_rows, KeepSame, KeepsRows};
 
+use crate::lock::UNLOCKED;
 use crate::node_record::NodeRecord;
-use fk_base::{NoMemory, Path};
+use fk_base::{Bytes, Names, NoMemory, Path};
+use fk_tree::Node;
+use std::alloc::Global;
 
 /// A path and its record; a row may stand without a record, as if it weren't there.
 #[derive(Drop)]
 pub struct Row {
     pub path: Path,
     pub kept: Option<NodeRecord>,
+}
+
+/// The row of the root as it starts: no data, no child and all numbers 0; never locked.
+pub fn root_row(alloc: Global) -> Row
+    ensures path { result.path ≡ [] }
+    ensures kept { result.kept ≡ Some root_record }
+{
+    let node = Node {
+        bytes: Bytes::new(alloc),
+        czxid: 0,
+        mzxid: 0,
+        pzxid: 0,
+        ctime: 0,
+        mtime: 0,
+        version: 0,
+        cversion: 0,
+        made: 0,
+        owner: 0,
+        names: Names::new(alloc),
+    };
+    Row {
+        path: Path::root(alloc),
+        kept: Some(NodeRecord {
+            node: Some(node),
+            lock: UNLOCKED,
+            last: 0,
+        }),
+    }
 }
 
 pub fn record_in<'a>(rows: &'a [Row], path: &Path) -> Option<&'a NodeRecord>

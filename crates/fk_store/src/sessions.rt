@@ -1,14 +1,43 @@
 //! The records of sessions, which are numbered from 1, and what writes make of them.
 
 ghost use Rattle.std.specs.Prelude.{◌≡◌, ◌+◌, ◌==◌, [], ◌∷◌, ◌++◌, if◌then◌else◌, ℕ, None, Some, MatchOption, IfOk, OnOk};
-ghost use Rattle.fk_store.specs.Numbered.{session_at};
+ghost use Rattle.fk_store.specs.Meaning.{new_session};
+ghost use Rattle.fk_store.specs.Numbered.{new_sessions, session_at};
 ghost use Rattle.fk_tree.specs.Tree.{map_some};
 ghost use Rattle.fk_store.specs.Writes.{done_written, is_of_session, session_after, session_by, session_written, without};
 
+use crate::outcome::Outcome;
 use crate::session_record::SessionRecord;
 use crate::write::Write;
 use fk_base::{NoMemory, Numbers};
 use std::alloc::Global;
+
+fn new_session(alloc: Global) -> SessionRecord
+    ensures { result ≡ new_session }
+{
+    SessionRecord {
+        settled: 0,
+        outcome: Outcome::Nothing,
+        last: 0,
+        closed: false,
+        pending: Numbers::new(alloc),
+        ping: 0,
+        ping_at: 0,
+        pong: 0,
+    }
+}
+
+/// An empty record for each of these many sessions.
+#[tactic(auto, using(crate::proofs::Numbering::new_more))]
+pub fn new_sessions(alloc: Global, count: u32) -> Result<Vec<SessionRecord>, NoMemory>
+    ensures { IfOk result (λ v. v.items ≡ new_sessions count) }
+{
+    let mut sessions = Vec::new(alloc);
+    'adding: for _session in 0..count {
+        sessions.push(new_session(alloc))?;
+    }
+    Ok(sessions)
+}
 
 pub fn session_in(sessions: &[SessionRecord], session: u32) -> Option<&SessionRecord>
     ensures { MatchOption result (session_at session sessions.now ≡ None) (λ r. session_at session sessions.now ≡ Some r.now) }
