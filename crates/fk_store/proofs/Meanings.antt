@@ -24,8 +24,12 @@ same_meaning m n a b c d e = λ i. record { nodes = λ p. (a p) i; sessions = λ
 -- the table after writes, record by record
 abbrev pub apart : List Write → Meaning → Meaning
 apart ws m = record {
-    nodes = λ p. records_written p ws (m.nodes p); sessions = λ s. map_some (session_written s ws) (m.sessions s);
-    done = done_written ws m.done; armed = m.armed; faults = m.faults }
+  nodes = λ p. records_written p ws (m.nodes p);
+  sessions = λ s. map_some (session_written s ws) (m.sessions s);
+  done = done_written ws m.done;
+  armed = m.armed;
+  faults = m.faults;
+}
 
 map_same : {A : Type 0} (o : Option A) → o ≡ map_some (λ x. x) o
 map_same None = refl

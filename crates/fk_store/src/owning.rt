@@ -65,12 +65,7 @@ fn owns_row(rows: &[Row], row: &Row, session: u32) -> bool
 }
 
 // adds the path of a row that has a node of this owner
-fn add_owned(
-    paths: &mut Vec<Path>,
-    rows: &[Row],
-    row: &Row,
-    session: u32,
-) -> Result<(), NoMemory>
+fn add_owned(paths: &mut Vec<Path>, rows: &[Row], row: &Row, session: u32) -> Result<(), NoMemory>
     ensures { OnOk result (paths.new.items ≡ (if owns_row session rows.now row.now then with_key path_cmp row.now.path paths.old.items else paths.old.items)) }
 {
     if owns_row(rows, row, session) {

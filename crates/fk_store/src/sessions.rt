@@ -73,11 +73,7 @@ fn numbers_without(alloc: Global, numbers: &[u64], number: u64) -> Result<Number
 }
 
 // makes a write in the record of its session
-fn write_session(
-    alloc: Global,
-    kept: &mut SessionRecord,
-    write: &Write,
-) -> Result<(), NoMemory>
+fn write_session(alloc: Global, kept: &mut SessionRecord, write: &Write) -> Result<(), NoMemory>
     ensures { OnOk result (kept.new ≡ session_by write.now kept.old) }
 {
     match write {

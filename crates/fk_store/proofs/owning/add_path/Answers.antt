@@ -15,6 +15,6 @@ returns c =
     let place : k ≡ path_from 0 p ps = cc in
     c.in_ok-insert.ensures.items ∙ ap (insert ps k) c.in_ok-copy.ensures
     ∙ elim c.else-place-len.branch [
-      else-place-len-via-then-place-len+else-same w ↦ put_at_place p ps k w.index.result.now place (λ _. rw (← w.index.ensures) (sym w.if-same.ensures.test))
+      | else-place-len-via-then-place-len+else-same w ↦ put_at_place p ps k w.index.result.now place (λ _. rw (← w.index.ensures) (sym w.if-same.ensures.test))
       | else-place-len-via-else-place-len w ↦ put_at_place p ps k p place (λ l. let none : ⊥ = omega arith in absurd none)
     ]
