@@ -1,5 +1,5 @@
 -- What writes make of a draft of rows.
-use Rattle.std.proofs.Common.{◌≡◌, ℕ, suc, ◌+◌, ◌<◌, Bool, true, false, cond, ◌||◌, List, [], ◌∷◌, ◌++◌, Option, Some, None, length, drop, get_or, set, refl, sym, ◌∙◌, ap, subst, arith, drop-cons}
+use Rattle.std.proofs.Common.{◌≡◌, ℕ, suc, ◌+◌, ◌<◌, Bool, true, false, cond, List, [], ◌∷◌, ◌++◌, Option, Some, None, length, drop, get_or, set, refl, sym, ◌∙◌, ap, subst, arith, drop-cons}
 use Rattle.fk_base.specs.Path.{PathNames, same_path}
 use Rattle.fk_tree.proofs.Order.{by_test, same_path_is, same_path_self}
 use Rattle.fk_store.specs.declared.node_record.NodeRecord.{NodeRecord}

@@ -1,5 +1,5 @@
 -- Paths put to their places, and those of the rows of an owner.
-use Rattle.std.proofs.Common.{◌≡◌, ℕ, suc, ◌+◌, ◌<◌, Bool, true, false, cond, ◌&&◌, ◌||◌, List, [], ◌∷◌, Option, Some, None, Ordering, length, drop, get_or, refl, sym, ◌∙◌, ap, subst, arith, drop-cons}
+use Rattle.std.proofs.Common.{◌≡◌, ℕ, suc, ◌+◌, ◌<◌, Bool, true, false, cond, ◌&&◌, ◌||◌, List, [], ◌∷◌, Ordering, length, drop, get_or, refl, sym, ◌∙◌, ap, subst, arith, drop-cons}
 use Rattle.std.specs.Prelude.{insert}
 use Rattle.std.specs.declared.cmp.Ordering.TheVariants.{Less, Equal, Greater}
 use Rattle.std.specs.Ordering.{is_eq, is_gt, match_ordering}
@@ -8,7 +8,6 @@ use Rattle.fk_base.specs.Path.{PathNames, path_cmp, same_path}
 use Rattle.fk_tree.specs.Sorted.{has_path, rises, with_key}
 use Rattle.fk_tree.proofs.Order.{by_test, path_exact, path_total, same_path_is}
 use Rattle.fk_tree.proofs.Rising.{has_with, rises_with}
-use Rattle.fk_store.specs.declared.node_record.NodeRecord.{NodeRecord}
 use Rattle.fk_store.specs.declared.rows.Row.{Row}
 use Rattle.fk_store.specs.Answers.{has_owner}
 use Rattle.fk_store.specs.Owning.{gathered, is_gathered, owns_row, path_from}

@@ -1,12 +1,10 @@
 -- What a table of lists means after a call.
-use Rattle.std.proofs.Common.{◌≡◌, ℕ, Bool, true, false, cond, ◌&&◌, nat_le, List, [], ◌∷◌, ◌++◌, Option, Some, None, refl, sym, ◌∙◌, ap}
+use Rattle.std.proofs.Common.{◌≡◌, ℕ, false, cond, List, [], ◌∷◌, ◌++◌, Option, Some, None, refl, sym, ◌∙◌, ap}
 use Rattle.fk_base.specs.Path.{PathNames, is_root, same_path}
 use Rattle.fk_tree.specs.Tree.{map_some}
 use Rattle.fk_tree.proofs.Order.{same_path_self}
 use Rattle.fk_store.specs.declared.list_table.ListTable.{ListTable}
 use Rattle.fk_store.specs.declared.rows.Row.{Row}
-use Rattle.fk_store.specs.declared.node_record.NodeRecord.{NodeRecord}
-use Rattle.fk_store.specs.declared.session_record.SessionRecord.{SessionRecord}
 use Rattle.fk_store.specs.declared.write.Write.{Write}
 use Rattle.fk_store.specs.declared.write.Write.TheVariants as write
 use Rattle.fk_store.specs.Meaning.{Meaning, new_table, root_record}

@@ -1,5 +1,5 @@
 -- Records of sessions, and what writes make of them, one by one.
-use Rattle.std.proofs.Common.{◌≡◌, ℕ, zero, suc, ◌+◌, ◌<◌, ◌==◌, ◌&&◌, nat_le, nat_lt, add-one, Bool, true, false, cond, List, [], ◌∷◌, ◌++◌, Option, Some, None, length, take, drop, get_or, refl, sym, ◌∙◌, ap, subst, arith, drop-cons}
+use Rattle.std.proofs.Common.{◌≡◌, ℕ, zero, suc, ◌+◌, ◌<◌, ◌==◌, ◌&&◌, nat_le, nat_lt, add-one, Bool, true, false, cond, List, [], ◌∷◌, ◌++◌, Some, None, length, take, drop, get_or, refl, ◌∙◌, ap, arith, drop-cons}
 use Rattle.std.proofs.lemmas.List.{take_more, length-take-le}
 use Rattle.std.proofs.Math.Seq.{take-length}
 use Rattle.std.proofs.lemmas.Bool.{eqb-true}
@@ -8,7 +8,6 @@ use Rattle.fk_tree.specs.Tree.{map_some}
 use Rattle.fk_tree.proofs.Order.{by_test}
 use Rattle.fk_store.specs.declared.session_record.SessionRecord.{SessionRecord}
 use Rattle.fk_store.specs.declared.write.Write.{Write}
-use Rattle.fk_store.specs.declared.write.Write.TheVariants as write
 use Rattle.fk_store.specs.Meaning.{new_session}
 use Rattle.fk_store.specs.Numbered.{session_at, new_sessions, session_from, sessions_written}
 use Rattle.fk_store.specs.Writes.{done_after, done_written, session_after, session_written, without}

@@ -1,4 +1,5 @@
-ghost use Rattle.std.specs.Prelude.{◌≡◌, true, is_some, IsTrue};
+ghost use Rattle.std.specs.Prelude.{◌≡◌, true, is_some, IfSome, IsTrue};
+ghost use Rattle.fk_store.specs.Locks.{granted};
 
 use crate::{
     Cond, Found, ListTable, Lock, Outcome, Owned, Seen, Table, Taken, Transact, Write, still,
@@ -50,6 +51,25 @@ fn take<T: Table>(table: &mut T, path: &Path, inv: u64, now: u64) -> Option<(boo
     match table.take(path, inv, now, 10) {
         Taken::Granted(kept) => Some((true, kept.lock, kept.node.is_some())),
         Taken::Busy(lock) => Some((false, lock, false)),
+        Taken::Failed => None,
+        Taken::NoMemory => None,
+    }
+}
+
+/// Takes a lock for one invocation, and tells the lock that another one meets there at its limit.
+#[tactic(auto, using(fk_tree::proofs::Order::same_path_self))]
+fn met_at_limit<T: Table>(table: &mut T, path: &Path) -> Option<Lock>
+    ensures { IfSome result (λ l. l ≡ granted 1 0) }
+{
+    match table.take(path, 1, 0, 10) {
+        Taken::Granted(_) => {}
+        Taken::Busy(_) => return None,
+        Taken::Failed => return None,
+        Taken::NoMemory => return None,
+    }
+    match table.take(path, 2, 10, 10) {
+        Taken::Granted(_) => None,
+        Taken::Busy(lock) => Some(lock),
         Taken::Failed => None,
         Taken::NoMemory => None,
     }

@@ -1,7 +1,5 @@
 use Rattle.std.proofs.Common.{◌≡◌, sym, ◌∙◌, ap, arith}
 use Rattle.std.specs.Prelude.{insert}
-use Rattle.fk_base.specs.Path.{path_cmp}
-use Rattle.fk_tree.specs.Sorted.{with_key}
 use Rattle.fk_store.specs.Owning.{path_from}
 use Rattle.fk_store.proofs.Gathering.{put_at_place}
 use Rattle.fk_store.proofs.owning.add_path.Goals as goal
