@@ -1,0 +1,5 @@
+pub mod Drafting
+pub mod Gathering
+pub mod Keeping
+pub mod Meanings
+pub mod Numbering

@@ -1,0 +1,9 @@
+pub mod Answers
+pub mod Conds
+pub mod Locks
+pub mod Meaning
+pub mod Numbered
+pub mod Owning
+pub mod Rows
+pub mod Tables
+pub mod Writes

@@ -1,0 +1,35 @@
+ghost use Rattle.std.specs.Prelude.{◌≡◌, IfOk};
+
+use crate::lock::Lock;
+use fk_base::NoMemory;
+use fk_tree::Node;
+
+/// What a table keeps of a path.
+#[derive(Drop)]
+pub struct NodeRecord {
+    pub node: Option<Node>,
+    pub lock: Lock,
+    /// The last transaction that changed the node.
+    pub last: u64,
+}
+
+impl NodeRecord {
+    pub fn copy(&self) -> Result<NodeRecord, NoMemory>
+        ensures { IfOk result (λ r. r ≡ self.now) }
+    {
+        Ok(NodeRecord {
+            node: copy_of(&self.node)?,
+            lock: self.lock,
+            last: self.last,
+        })
+    }
+}
+
+fn copy_of(node: &Option<Node>) -> Result<Option<Node>, NoMemory>
+    ensures { IfOk result (λ n. n ≡ node.now) }
+{
+    match node {
+        None => Ok(None),
+        Some(node) => Ok(Some(node.copy()?)),
+    }
+}
