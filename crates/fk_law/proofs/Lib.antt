@@ -2,3 +2,4 @@ pub mod Due
 pub mod Moving
 pub mod Starting
 pub mod Pushing
+pub mod Settled
