@@ -1,3 +1,4 @@
+pub mod Committing
 pub mod Due
 pub mod Moving
 pub mod Starting
