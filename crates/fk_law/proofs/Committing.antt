@@ -38,10 +38,10 @@ pub record IsCommittedPush (t : ℕ) (h : List Entry) : Type 0 where
 outcome_stays : (c k : ℕ) (h : List Entry) (o : Option Settling) (x : Option Outcome) → k ≤ settled_of c h → outcome_here c k (settled_of c h) o x ≡ x
 outcome_stays c k h o x b = grind (arith, nat_tests)
 
-counts_more : (c : ℕ) (o : Option Settling) (s k : ℕ) → k ≤ s → k ≤ count_settling c o s
+pub counts_more : (c : ℕ) (o : Option Settling) (s k : ℕ) → k ≤ s → k ≤ count_settling c o s
 counts_more c o s k b = grind (arith, nat_tests)
 
-committed_now : (t c k s : ℕ) (o : Option ℕ) (x : Option Outcome) → o ≡ Some c → s + 1 ≡ k → (k ≤ count_settling c (settling o (Committed t)) s) × (outcome_here c k s (settling o (Committed t)) x ≡ Some (Committed t))
+pub committed_now : (t c k s : ℕ) (o : Option ℕ) (x : Option Outcome) → o ≡ Some c → s + 1 ≡ k → (k ≤ count_settling c (settling o (Committed t)) s) × (outcome_here c k s (settling o (Committed t)) x ≡ Some (Committed t))
 committed_now t c k s o x e n = grind (arith, nat_tests)
 
 committed_step : (p : Plan) (t : ℕ) (e : Entry) (h : List Entry) (o : Op) → e.op ≡ o → IsHistory p (e ∷ h) → (is_committed t h ≡ true → IsCommittedPush t h) → (commits t o || is_committed t h) ≡ true → IsCommittedPush t (e ∷ h)

@@ -1,3 +1,4 @@
 pub mod Due
 pub mod Functions
+pub mod Losing
 pub mod Progress
