@@ -1,5 +1,6 @@
 pub mod Committing
 pub mod Due
+pub mod Leading
 pub mod Losing
 pub mod Moving
 pub mod Starting

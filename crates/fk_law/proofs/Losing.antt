@@ -147,7 +147,7 @@ released_settled p n c k h l r t = let x = released p n h l r in grind (arith, x
 
 -- Dead pushes. ----------------------------------------------------------------------------------------
 
-dead_no_commit : (p : Plan) (t : ℕ) (h : List Entry) (o : Op) → IsHistory p h → IsDue p h o → IsDead t h → commits t o ≡ false
+pub dead_no_commit : (p : Plan) (t : ℕ) (h : List Entry) (o : Op) → IsHistory p h → IsDue p h o → IsDead t h → commits t o ≡ false
 dead_no_commit p t h (op.CommitOk n s) l d x = by_test (s == t) refl
   where
     w : IsPushOf s d.0 d.1 d.2 h

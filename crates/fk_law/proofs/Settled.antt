@@ -94,7 +94,7 @@ record IsSettledInOrder (p : Plan) (h : List Entry) : Type 0 where
   pub between : (c : ℕ) → IsBetween (removed_by (follows_session c) h) (settled_of c h)
   pub answered : (n : ℕ) → OnFollower (AnsweredIn h) (place_of p n h)
 
-removed_grows : (w : Option Task → Bool) (h : List Entry) (o : Op) (r : ℕ) → (r ≤ removed_in w h o r) × (removed_in w h o r ≤ r + 1)
+pub removed_grows : (w : Option Task → Bool) (h : List Entry) (o : Op) (r : ℕ) → (r ≤ removed_in w h o r) × (removed_in w h o r ≤ r + 1)
 removed_grows w h o r = grind (arith, nat_tests)
 
 settled_grows : (c : ℕ) (o : Option Settling) (s : ℕ) → s ≤ count_settling c o s

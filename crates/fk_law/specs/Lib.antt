@@ -1,4 +1,5 @@
 pub mod Due
 pub mod Functions
+pub mod LeaderLane
 pub mod Losing
 pub mod Progress
