@@ -5,4 +5,5 @@ pub mod Losing
 pub mod Moving
 pub mod Starting
 pub mod Pushing
+pub mod Rising
 pub mod Settled

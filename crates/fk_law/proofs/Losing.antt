@@ -117,7 +117,7 @@ pub record IsReleased (n : ℕ) (h : List Entry) : Type 0 where
 pub is_push_of_it : (t m c k : ℕ) (h : List Entry) → IsPushOf t m c k h → is_push_of m (push_of t h) ≡ true
 is_push_of_it t m c k h i = grind (arith, nat_tests)
 
-its_pusher : (t n m c k : ℕ) (h : List Entry) → IsPushOf t m c k h → is_push_of n (push_of t h) ≡ true → m ≡ n
+pub its_pusher : (t n m c k : ℕ) (h : List Entry) → IsPushOf t m c k h → is_push_of n (push_of t h) ≡ true → m ≡ n
 its_pusher t n m c k h i e = grind (arith, nat_tests)
 
 refused_now : (n c k s : ℕ) (h : List Entry) (code : Code) (place at : ℕ) → task_of n h ≡ Some (Follows c k) → s + 1 ≡ k → k ≤ count_settling c (settled_in h (op.RefuseOk n code place at)) s

@@ -3,3 +3,4 @@ pub mod Functions
 pub mod LeaderLane
 pub mod Losing
 pub mod Progress
+pub mod Rising

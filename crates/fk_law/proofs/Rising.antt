@@ -1,0 +1,83 @@
+-- Commits on a path and in a session come in the order of their numbers.
+use Rattle.std.specs.Prelude.{◌==◌, ◌||◌, ◌&&◌, not, nat_le}
+use Rattle.std.proofs.Common.{◌≡◌, ◌≢◌, ℕ, ◌+◌, ◌<◌, ◌≤◌, ◌++◌, ◌⊎◌, inl, inr, Bool, true, false, cond, List, [], ◌∷◌, refl, sym, ◌∙◌, ap, subst, arith, rules, Option, Some, None}
+use Rattle.std.proofs.lemmas.Bool.{cond_both, false≢true}
+use Rattle.std.proofs.lemmas.Bool.Decides.{nat_tests}
+use Rattle.fk_base.specs.Path.{PathNames, same_path}
+use Rattle.fk_tree.specs.Sorted.{has_path}
+use Rattle.fk_tree.proofs.Order.{same_path_is, same_path_self}
+use Rattle.fk_print.specs.declared.entry.Entry.{Entry}
+use Rattle.fk_print.specs.declared.op.Op.{Op}
+use Rattle.fk_print.specs.declared.op.Op.TheVariants as op
+use Rattle.fk_spec.specs.Plan.{Plan}
+use Rattle.fk_spec.specs.Start.{Task, Follows, Push, clock_of, task_of, push_of, push_here, pushed_in, pushes_of, or_else}
+use Rattle.fk_spec.specs.Locks.{Grant, is_push_of, last_grant, grant_in, granted, granted_in, is_held_by}
+use Rattle.fk_spec.specs.Settling.{is_committed, commits, settled_of}
+use Rattle.fk_spec.specs.Next.{IsHistory}
+use Rattle.fk_law.specs.Due.{IsDue, IsPushOf, HoldsAll}
+use Rattle.fk_law.specs.Rising.{CommitsRiseOnAPath, CommitsRiseInASession}
+use Rattle.fk_law.proofs.Due.{due}
+use Rattle.fk_law.proofs.Pushing.{push_bound}
+use Rattle.fk_law.proofs.Settled.{commit_of, task_at_most_next, settles_the_next}
+use Rattle.fk_law.proofs.Committing.{its_push_is_one, committed_push, commits_once, one_push, pusher_starts}
+use Rattle.fk_law.proofs.Losing.{holds_each, no_more_locks, is_push_of_it, its_pusher}
+
+-- function n was granted it last
+abbrev pub IsOwn : ℕ → Option Grant → Type 0
+IsOwn n None = ⊥
+IsOwn n (Some g) = g.holder ≡ n
+
+held_own : (n : ℕ) (h : List Entry) (g : Option Grant) → is_held_by n h g ≡ true → IsOwn n g
+held_own n h None e = absurd (false≢true e)
+held_own n h (Some g) e = grind (arith, nat_tests)
+
+own_same : (n m : ℕ) (g : Option Grant) → IsOwn n g → IsOwn m g → n ≡ m
+own_same n m None a b = absurd a
+own_same n m (Some g) a b = grind arith
+
+-- push t of function n is uncommitted and holds the path, push s of function m is committed and was granted it
+abbrev Before : ℕ → ℕ → ℕ → ℕ → PathNames → List Entry → Type 0
+Before t n s m path h = is_push_of n (push_of t h) ≡ true → is_push_of m (push_of s h) ≡ true → is_committed t h ≡ false → is_committed s h ≡ true → has_path path (granted m h) ≡ true → has_path path (granted n h) ≡ true → IsOwn n (last_grant path h) → s < t
+
+commit_meets : (p : Plan) (a u t n s m : ℕ) (path : PathNames) (h : List Entry) → IsHistory p h → IsDue p h (op.CommitOk a u) → is_push_of n (push_of t h) ≡ true → is_push_of m (push_of s h) ≡ true → u ≡ s → has_path path (granted m h) ≡ true → IsOwn n (last_grant path h) → t ≡ s
+commit_meets p a u t n s m path h l d x y e g o =
+    let w : IsPushOf s d.0 d.1 d.2 h = subst (λ z. IsPushOf z d.0 d.1 d.2 h) e (commit_of p a u d.0 d.1 d.2 h l d.3) in
+    let f : d.0 ≡ m = its_pusher s m d.0 d.1 d.2 h w y in
+    let k : IsOwn m (last_grant path h) = held_own m h (last_grant path h) (holds_each m h path (subst (λ z. HoldsAll z h) f d.5) g) in
+    one_push p t s n h l x (subst (λ z. is_push_of z (push_of s h) ≡ true) (own_same m n (last_grant path h) k o) y)
+
+lock_before : (n m : ℕ) (q path : PathNames) (ps : List PathNames) → (m ≡ n → ⊥) → has_path path (granted_in n (op.LockOk m q) ps) ≡ true → has_path path ps ≡ true
+lock_before n m q path ps f g = grind (arith, nat_tests)
+
+own_before : (n m : ℕ) (q path : PathNames) (h : List Entry) → (m ≡ n → ⊥) → IsOwn n (grant_in path (clock_of h) (op.LockOk m q) (last_grant path h)) → IsOwn n (last_grant path h)
+own_before n m q path h f g = grind (arith, nat_tests)
+
+meets_step : (p : Plan) (t n s m : ℕ) (path : PathNames) (h : List Entry) (o : Op) → IsHistory p h → IsDue p h o → Before t n s m path h
+  → (is_committed s h ≡ true → s ≤ pushes_of h)
+  → is_push_of n (or_else (push_here t (pushed_in (clock_of h) o)) (push_of t h)) ≡ true
+  → is_push_of m (or_else (push_here s (pushed_in (clock_of h) o)) (push_of s h)) ≡ true
+  → (commits t o || is_committed t h) ≡ false → (commits s o || is_committed s h) ≡ true
+  → has_path path (granted_in m o (granted m h)) ≡ true → has_path path (granted_in n o (granted n h)) ≡ true
+  → IsOwn n (grant_in path (clock_of h) o (last_grant path h)) → s < t
+meets_step p t n s m path h (op.Push a u) l d i b x y v w g k o = grind (arith, nat_tests)
+meets_step p t n s m path h (op.CommitOk a u) l d i b x y v w g k o = grind (arith, nat_tests, commit_meets p a u t n s m path h l d)
+meets_step p t n s m path h (op.LockOk a q) l d i b x y v w g k o =
+    let f : a ≡ n → ⊥ = λ e. no_more_locks p t n q h l (subst (λ z. IsDue p h (op.LockOk z q)) e d) x in
+    let c : a ≡ m → ⊥ = λ e. no_more_locks p s m q h l (subst (λ z. IsDue p h (op.LockOk z q)) e d) y in
+    i x y v w (lock_before m a q path (granted m h) c g) (lock_before n a q path (granted n h) f k) (own_before n a q path h f o)
+meets_step p t n s m path h o l d i b x y v w g k z = grind (arith, nat_tests)
+
+committed_low : (p : Plan) (s : ℕ) (h : List Entry) → IsHistory p h → is_committed s h ≡ true → s ≤ pushes_of h
+committed_low p s h l c = let x = committed_push p s h l c in (push_bound p s h x.is_of.push l x.is_of.pushed).2
+
+-- a push that holds a path is beyond each committed one whose function was granted it
+pub newest_on_a_path : (p : Plan) (t n s m : ℕ) (path : PathNames) (h : List Entry) → IsHistory p h → Before t n s m path h
+newest_on_a_path p t n s m path [] l = λ x y v w g k o. absurd (false≢true x)
+newest_on_a_path p t n s m path (e ∷ h) l = λ x y v w g k o. meets_step p t n s m path h e.op l.0 (due p e h l) (newest_on_a_path p t n s m path h l.0) (committed_low p s h l.0) x y v w g k o
+
+pub commits_rise_on_a_path : CommitsRiseOnAPath
+commits_rise_on_a_path p a t n c k s m d j path h l u x y i g f =
+    let w = commit_of p a t u.0 u.1 u.2 h l u.3 in
+    let e = (its_push_is_one t n c k u.0 u.1 u.2 h x w).0 in
+    newest_on_a_path p t n s m path h l (is_push_of_it t n c k h x) (is_push_of_it s m d j h y) (commits_once p a t h l u) i f g
+    (held_own n h (last_grant path h) (holds_each n h path (subst (λ z. HoldsAll z h) (sym e) u.5) g))
