@@ -20,6 +20,7 @@ use Rattle.fk_law.specs.Due.{IsDue, Acks}
 use Rattle.fk_law.specs.Functions.{IsFor}
 use Rattle.fk_law.specs.Losing.{IsDead}
 use Rattle.fk_law.specs.LeaderLane.{publishes, is_published, IsFinished, DoneIsRemovedOrOneMore, MarkBehindSweep, SweptAreCommitted, PublishedAreSwept, PublishedUpToTheMark, PushesBelowTheHeadAreFinished, CommitsAreBeyondTheSweep}
+use Rattle.fk_law.proofs.Numbers.{less_or_not}
 use Rattle.fk_law.proofs.Due.{due}
 use Rattle.fk_law.proofs.Moving.{OnLeader, leader_step}
 use Rattle.fk_law.proofs.Starting.{leader_task, place_for}
@@ -151,13 +152,6 @@ newly_done p u h (op.DoneOk n t) l d i a b =
     let f : u ≡ t = (let c = i.between in let v = d.1 in grind (arith, nat_tests)) in
     subst (λ x. IsDead x h ⊎ ((is_committed x h ≡ true) × (x ≤ mark_of h))) (sym f) (inr r.0)
 newly_done p u h o l d i a b = absurd (grind (arith, nat_tests))
-
-less_or_not : (a b : ℕ) → (b ≤ a → ⊥) → a < b
-less_or_not a b f = by_test (nat_le b a) refl
-  where
-    by_test : (c : Bool) → nat_le b a ≡ c → a < b
-    by_test true e = absurd (f (grind (arith, nat_tests)))
-    by_test false e = grind (arith, nat_tests)
 
 -- what commits is beyond all that is done, swept and published
 commit_beyond : (p : Plan) (n t : ℕ) (h : List Entry) → IsHistory p h → IsDue p h (op.CommitOk n t) → IsInOrder p h → (done_of h < t) × (swept_of h < t) × (mark_of h < t)

@@ -3,6 +3,7 @@ pub mod Due
 pub mod Leading
 pub mod Losing
 pub mod Moving
+pub mod Numbers
 pub mod Starting
 pub mod Pushing
 pub mod Rising
