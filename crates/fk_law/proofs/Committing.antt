@@ -13,6 +13,7 @@ use Rattle.fk_spec.specs.Follower.{Follower}
 use Rattle.fk_spec.specs.Function.{Following, place_of, actor}
 use Rattle.fk_spec.specs.Next.{IsHistory}
 use Rattle.fk_law.specs.Due.{IsDue, IsPushOf}
+use Rattle.fk_law.specs.Settled.{IsCommittedPush}
 use Rattle.fk_law.specs.Progress.{Progress, Asks, Works, Expires, Commits, progress, progress_after}
 use Rattle.fk_law.proofs.Due.{due}
 use Rattle.fk_law.proofs.Moving.{OnFollower, follower_step}
@@ -26,16 +27,7 @@ its_push_stays p t n c k e h l i = record { push = i.push; pushed = push_stays p
 pub its_push_is_one : (t n c k m d j : ℕ) (h : List Entry) → IsPushOf t n c k h → IsPushOf t m d j h → (n ≡ m) × (c ≡ d) × (k ≡ j)
 its_push_is_one t n c k m d j h a b = grind arith
 
--- a committed push: its request is settled, and that is its outcome
-pub record IsCommittedPush (t : ℕ) (h : List Entry) : Type 0 where
-  pub function : ℕ
-  pub session : ℕ
-  pub k : ℕ
-  pub is_of : IsPushOf t function session k h
-  pub settled : k ≤ settled_of session h
-  pub outcome : outcome_of session k h ≡ Some (Committed t)
-
-outcome_stays : (c k : ℕ) (h : List Entry) (o : Option Settling) (x : Option Outcome) → k ≤ settled_of c h → outcome_here c k (settled_of c h) o x ≡ x
+pub outcome_stays : (c k : ℕ) (h : List Entry) (o : Option Settling) (x : Option Outcome) → k ≤ settled_of c h → outcome_here c k (settled_of c h) o x ≡ x
 outcome_stays c k h o x b = grind (arith, nat_tests)
 
 pub counts_more : (c : ℕ) (o : Option Settling) (s k : ℕ) → k ≤ s → k ≤ count_settling c o s

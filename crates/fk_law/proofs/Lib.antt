@@ -5,6 +5,7 @@ pub mod Losing
 pub mod Moving
 pub mod Numbers
 pub mod Starting
+pub mod Outcomes
 pub mod Pushing
 pub mod Rising
 pub mod Settled

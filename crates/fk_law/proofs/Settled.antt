@@ -6,7 +6,7 @@ use Rattle.fk_print.specs.declared.entry.Entry.{Entry}
 use Rattle.fk_print.specs.declared.op.Op.{Op}
 use Rattle.fk_print.specs.declared.op.Op.TheVariants as op
 use Rattle.fk_spec.specs.Plan.{Plan}
-use Rattle.fk_spec.specs.Start.{Task, Follows, Leads, Push, clock_of, task_of, push_of, pushes_of, or_else, started_in, task_here, sends_of, sent_in, count_sent, session_followed}
+use Rattle.fk_spec.specs.Start.{Task, Follows, Leads, Push, clock_of, task_of, push_of, pushes_of, or_else, started_in, task_here, sends_of, sent_in, count_sent, session_followed, Origin}
 use Rattle.fk_spec.specs.Locks.{is_push_of, loss_of}
 use Rattle.fk_spec.specs.Settling.{Settling, Outcome, Committed, Refused, Passed, settling, settled_in, settled_of, count_settling, session_of_push}
 use Rattle.fk_spec.specs.Lanes.{follows_session, leads, removed_by, removed_in, session_head}
@@ -18,6 +18,7 @@ use Rattle.fk_spec.specs.Next.{IsHistory}
 use Rattle.fk_law.specs.Due.{IsDue, IsPushOf, Commits}
 use Rattle.fk_law.specs.Due as due_so
 use Rattle.fk_law.specs.Functions.{IsFor}
+use Rattle.fk_law.specs.Settled.{IsNext, Answered, MessageIsReached, SettlesTheNext, SettledIsRemovedOrOneMore, SettledWereSent, AnsweredIsSettled}
 use Rattle.fk_law.specs.Progress.{Progress, Asks, Works, Acks, Replies, progress, progress_after}
 use Rattle.fk_law.specs.Progress as so_far
 use Rattle.fk_law.proofs.Due.{due}
@@ -55,13 +56,6 @@ commit_of p n t m c k h l i = by_place (place_of p n h) refl i
 pub session_of_its_push : (t m c k : ℕ) (h : List Entry) → IsPushOf t m c k h → session_of_push t h ≡ Some c
 session_of_its_push t m c k h i = grind arith
 
--- a settling is of its session's next request
-pub record IsNext (h : List Entry) (s : Settling) : Type 0 where
-  pub function : ℕ
-  pub k : ℕ
-  pub task : task_of function h ≡ Some (Follows s.session k)
-  pub next : settled_of s.session h + 1 ≡ k
-
 settling_commit : (t m c k : ℕ) (h : List Entry) (s : Settling) → IsPushOf t m c k h → settled_of c h + 1 ≡ k → settling (session_of_push t h) (Committed t) ≡ Some s → IsNext h s
 settling_commit t m c k h s i n e = let f : s.session ≡ c = grind (arith, session_of_its_push t m c k h i) in record { function = m; k = k; task = rw f i.task; next = rw f n }
 
@@ -80,12 +74,6 @@ settles_the_next p e h s l i = settles_step p h e.op s l.0 (due p e h l) i
 -- the settled requests of a session are the removed ones, or one more
 abbrev pub IsBetween : ℕ → ℕ → Type 0
 IsBetween removed settled = (removed ≤ settled) × (settled ≤ removed + 1)
-
--- a follower that answers or ends has its request settled
-abbrev pub Answered : ℕ → ℕ → Progress → Type 0
-Answered settled k Acks = k ≤ settled
-Answered settled k Replies = k ≤ settled
-Answered settled k _ = Unit {0}
 
 abbrev AnsweredIn : List Entry → ℕ → ℕ → Progress → Type 0
 AnsweredIn h c k q = Answered (settled_of c h) k q
@@ -159,3 +147,18 @@ answered_at p n h f l b = subst (OnFollower (AnsweredIn h)) b ((settled_in_order
 -- whatever a follower was started for is the next to settle or settled
 pub task_at_most_next : (p : Plan) (n c k : ℕ) (h : List Entry) → IsHistory p h → task_of n h ≡ Some (Follows c k) → k ≤ settled_of c h + 1
 task_at_most_next p n c k h l b = let r = reached p n c k h l b in let s = settled_between p c h l in omega (arith, r.1, s.0)
+
+-- what is settled was sent
+counts_sent : (o : Option Origin) (n : ℕ) → n ≤ count_sent o n
+counts_sent o n = grind arith
+
+sent_next : (c : ℕ) (h : List Entry) (s : Settling) → IsNext h s → ((m k : ℕ) → task_of m h ≡ Some (Follows c k) → k ≤ sends_of c h) → settled_of c h ≤ sends_of c h → count_settling c (Some s) (settled_of c h) ≤ sends_of c h
+sent_next c h s i r b = grind (arith, nat_tests, r i.function i.k)
+
+sent_step : (p : Plan) (c : ℕ) (e : Entry) (h : List Entry) (o : Option Settling) → IsHistory p h → ((s : Settling) → o ≡ Some s → IsNext h s) → settled_of c h ≤ sends_of c h → count_settling c o (settled_of c h) ≤ sends_of c (e ∷ h)
+sent_step p c e h None l i b = let g = counts_sent (sent_in c h e.op) (sends_of c h) in omega (arith, b, g)
+sent_step p c e h (Some s) l i b = let g = counts_sent (sent_in c h e.op) (sends_of c h) in let u = sent_next c h s (i s refl) (λ m k t. (reached p m c k h l t).2) b in omega (arith, u, g)
+
+pub settled_were_sent : SettledWereSent
+settled_were_sent p c [] l = omega arith
+settled_were_sent p c (e ∷ h) l = sent_step p c e h (settled_in h e.op) l.0 (λ s b. settles_the_next p e h s l b) (settled_were_sent p c h l.0)

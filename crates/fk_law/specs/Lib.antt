@@ -3,4 +3,6 @@ pub mod Functions
 pub mod LeaderLane
 pub mod Losing
 pub mod Progress
+pub mod Pushes
 pub mod Rising
+pub mod Settled
