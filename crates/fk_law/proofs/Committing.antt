@@ -1,6 +1,7 @@
 -- A push commits once, and its request's outcome is that it was.
 use Rattle.std.specs.Prelude.{◌==◌, ◌||◌}
 use Rattle.std.proofs.Common.{◌≡◌, ◌≢◌, ℕ, ◌+◌, ◌<◌, ◌≤◌, ◌++◌, Bool, true, false, cond, List, [], ◌∷◌, refl, sym, ◌∙◌, ap, subst, arith, rules, Option, Some, None}
+use Rattle.std.proofs.lemmas.Bool.{false≢true}
 use Rattle.std.proofs.lemmas.Bool.Decides.{nat_tests}
 use Rattle.fk_print.specs.declared.entry.Entry.{Entry}
 use Rattle.fk_print.specs.declared.op.Op.{Op}
@@ -13,7 +14,8 @@ use Rattle.fk_spec.specs.Follower.{Follower}
 use Rattle.fk_spec.specs.Function.{Following, place_of, actor}
 use Rattle.fk_spec.specs.Next.{IsHistory}
 use Rattle.fk_law.specs.Due.{IsDue, IsPushOf}
-use Rattle.fk_law.specs.Settled.{IsCommittedPush}
+use Rattle.fk_law.specs.Settled.{IsCommittedPush, AtWorkIsUnpushed}
+use Rattle.fk_law.specs.Pushes.{OnePushForEachFunction}
 use Rattle.fk_law.specs.Progress.{Progress, Asks, Works, Expires, Commits, progress, progress_after}
 use Rattle.fk_law.proofs.Due.{due}
 use Rattle.fk_law.proofs.Moving.{OnFollower, follower_step}
@@ -23,6 +25,9 @@ use Rattle.fk_law.proofs.Settled.{commit_of, session_of_its_push, task_at_most_n
 
 pub its_push_stays : (p : Plan) (t n c k : ℕ) (e : Entry) (h : List Entry) → IsHistory p (e ∷ h) → IsPushOf t n c k h → IsPushOf t n c k (e ∷ h)
 its_push_stays p t n c k e h l i = record { push = i.push; pushed = push_stays p t e h i.push l i.pushed; function = i.function; task = task_stays p n e h (Follows c k) l i.task }
+
+pub is_push_of_it : (t m c k : ℕ) (h : List Entry) → IsPushOf t m c k h → is_push_of m (push_of t h) ≡ true
+is_push_of_it t m c k h i = grind (arith, nat_tests)
 
 pub its_push_is_one : (t n c k m d j : ℕ) (h : List Entry) → IsPushOf t n c k h → IsPushOf t m d j h → (n ≡ m) × (c ≡ d) × (k ≡ j)
 its_push_is_one t n c k m d j h a b = grind arith
@@ -145,3 +150,9 @@ one_push_step p t s n h o d i a b x y = grind (arith, nat_tests)
 pub one_push : (p : Plan) (t s n : ℕ) (h : List Entry) → IsHistory p h → is_push_of n (push_of t h) ≡ true → is_push_of n (push_of s h) ≡ true → t ≡ s
 one_push p t s n [] l x y = absurd (grind arith)
 one_push p t s n (e ∷ h) l x y = one_push_step p t s n h e.op (due p e h l) (one_push p t s n h l.0) (λ f b w. at_work_unpushed p t n h f l.0 b w) (λ f b w. at_work_unpushed p s n h f l.0 b w) x y
+
+pub one_push_law : OnePushForEachFunction
+one_push_law p t s n c k d j h l x y = one_push p t s n h l (is_push_of_it t n c k h x) (is_push_of_it s n d j h y)
+
+pub at_work_law : AtWorkIsUnpushed
+at_work_law p t n c k h f l b w x = false≢true (sym (at_work_unpushed p t n h f l b w) ∙ is_push_of_it t n c k h x)

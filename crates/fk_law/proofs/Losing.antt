@@ -23,7 +23,7 @@ use Rattle.fk_law.specs.Losing.{IsOthers, IsOvertaken, IsDead, DeadPushNeverComm
 use Rattle.fk_law.proofs.Due.{due}
 use Rattle.fk_law.proofs.Starting.{follower_task, task_stays}
 use Rattle.fk_law.proofs.Settled.{commit_of, session_of_its_push, task_at_most_next}
-use Rattle.fk_law.proofs.Committing.{its_push_stays, its_push_is_one, committed_settled, commits_once, at_work_unpushed, counts_more, committed_now}
+use Rattle.fk_law.proofs.Committing.{its_push_stays, its_push_is_one, committed_settled, commits_once, at_work_unpushed, counts_more, committed_now, is_push_of_it}
 
 -- Paths. ----------------------------------------------------------------------------------------------
 
@@ -113,9 +113,6 @@ pub record IsReleased (n : ℕ) (h : List Entry) : Type 0 where
   pub k : ℕ
   pub task : task_of n h ≡ Some (Follows session k)
   pub settled : k ≤ settled_of session h
-
-pub is_push_of_it : (t m c k : ℕ) (h : List Entry) → IsPushOf t m c k h → is_push_of m (push_of t h) ≡ true
-is_push_of_it t m c k h i = grind (arith, nat_tests)
 
 pub its_pusher : (t n m c k : ℕ) (h : List Entry) → IsPushOf t m c k h → is_push_of n (push_of t h) ≡ true → m ≡ n
 its_pusher t n m c k h i e = grind (arith, nat_tests)

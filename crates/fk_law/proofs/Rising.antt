@@ -23,8 +23,8 @@ use Rattle.fk_law.proofs.Starting.{task_stays}
 use Rattle.fk_law.proofs.Pushing.{push_bound, push_stays, push_request, push_there}
 use Rattle.fk_law.proofs.Settled.{commit_of, task_at_most_next}
 use Rattle.fk_law.proofs.Committing.{counts_more}
-use Rattle.fk_law.proofs.Committing.{its_push_is_one, committed_push, commits_once, one_push, committed_settled}
-use Rattle.fk_law.proofs.Losing.{holds_each, no_more_locks, is_push_of_it, its_pusher, overtaken_never_commits}
+use Rattle.fk_law.proofs.Committing.{its_push_is_one, committed_push, commits_once, one_push, committed_settled, is_push_of_it}
+use Rattle.fk_law.proofs.Losing.{holds_each, no_more_locks, its_pusher, overtaken_never_commits}
 
 held_own : (n : ℕ) (h : List Entry) (g : Option Grant) → is_held_by n h g ≡ true → IsOwn n g
 held_own n h None e = absurd (false≢true e)
