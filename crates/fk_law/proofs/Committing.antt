@@ -134,6 +134,9 @@ fresh : (p : Plan) (t n : ℕ) (h : List Entry) → IsHistory p h → OnFollower
 fresh p t n [] l = tt
 fresh p t n (e ∷ h) l = fresh_step p t n e h l (fresh p t n h l.0)
 
+pub fresh_at : (p : Plan) (t n : ℕ) (h : List Entry) (f : Follower) → IsHistory p h → place_of p n h ≡ Following f → Fresh (is_push_of n (push_of t h)) (settled_of f.session h) f.k (progress f.stage)
+fresh_at p t n h f l b = subst (OnFollower (FreshIn t n h)) b (fresh p t n h l)
+
 -- a follower at work has pushed nothing
 pub at_work_unpushed : (p : Plan) (t n : ℕ) (h : List Entry) (f : Follower) → IsHistory p h → place_of p n h ≡ Following f → progress f.stage ≡ Works → is_push_of n (push_of t h) ≡ false
 at_work_unpushed p t n h f l b w = subst (λ q. FreshIn t n h f.session f.k q) w (subst (OnFollower (FreshIn t n h)) b (fresh p t n h l))

@@ -1,6 +1,7 @@
 pub mod Committing
 pub mod Due
 pub mod Leading
+pub mod Locking
 pub mod Losing
 pub mod Moving
 pub mod Numbers

@@ -27,18 +27,18 @@ use Rattle.fk_law.proofs.Committing.{its_push_stays, its_push_is_one, committed_
 
 -- Paths. ----------------------------------------------------------------------------------------------
 
-ordered_has : (ps : List PathNames) (p : PathNames) → has_path p (in_path_order ps) ≡ has_path p ps
+pub ordered_has : (ps : List PathNames) (p : PathNames) → has_path p (in_path_order ps) ≡ has_path p ps
 ordered_has [] p = refl
 ordered_has (q ∷ ps) p = has_with path_total path_exact p q (in_path_order ps) ∙ ap (λ b. same_path p q || b) (ordered_has ps p)
 
-same_sym : (p q : PathNames) → same_path p q ≡ true → same_path q p ≡ true
+pub same_sym : (p q : PathNames) → same_path p q ≡ true → same_path q p ≡ true
 same_sym p q e = subst (λ (x : PathNames). same_path x p ≡ true) (same_path_is p q e) (same_path_self p)
 
-has_more : (p q : PathNames) (ps : List PathNames) → has_path p ps ≡ true → has_path p (ps ++ q ∷ []) ≡ true
+pub has_more : (p q : PathNames) (ps : List PathNames) → has_path p ps ≡ true → has_path p (ps ++ q ∷ []) ≡ true
 has_more p q [] e = absurd (false≢true e)
 has_more p q (r ∷ ps) e = grind (arith, has_more p q ps)
 
-has_last : (p q : PathNames) (ps : List PathNames) → has_path p (ps ++ q ∷ []) ≡ true → has_path p ps ≡ false → same_path p q ≡ true
+pub has_last : (p q : PathNames) (ps : List PathNames) → has_path p (ps ++ q ∷ []) ≡ true → has_path p ps ≡ false → same_path p q ≡ true
 has_last p q [] e f = grind arith
 has_last p q (r ∷ ps) e f = grind (arith, has_last p q ps)
 

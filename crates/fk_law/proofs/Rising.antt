@@ -66,7 +66,7 @@ meets_step p t n s m path h (op.LockOk a q) l d i b x y v w g k o =
     i x y v w (lock_before m a q path (granted m h) c g) (lock_before n a q path (granted n h) f k) (own_before n a q path h f o)
 meets_step p t n s m path h o l d i b x y v w g k z = grind (arith, nat_tests)
 
-committed_low : (p : Plan) (s : ℕ) (h : List Entry) → IsHistory p h → is_committed s h ≡ true → s ≤ pushes_of h
+pub committed_low : (p : Plan) (s : ℕ) (h : List Entry) → IsHistory p h → is_committed s h ≡ true → s ≤ pushes_of h
 committed_low p s h l c = let x = committed_push p s h l c in (push_bound p s h x.is_of.push l x.is_of.pushed).2
 
 -- a push that holds a path is beyond each committed one whose function was granted it

@@ -1,6 +1,7 @@
 pub mod Due
 pub mod Functions
 pub mod LeaderLane
+pub mod Locking
 pub mod Losing
 pub mod Progress
 pub mod Pushes
