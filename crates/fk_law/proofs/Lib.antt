@@ -7,6 +7,7 @@ pub mod Moving
 pub mod Numbers
 pub mod Starting
 pub mod Outcomes
+pub mod Passing
 pub mod Pushing
 pub mod Rising
 pub mod Settled

@@ -130,7 +130,7 @@ push_releases_at_its_commit p t n c k h l x = release_commits p t n h l (is_push
 same_task : (p : Plan) (n c k d j : ℕ) (e : Entry) (h : List Entry) → IsHistory p (e ∷ h) → task_of n h ≡ Some (Follows d j) → task_of n (e ∷ h) ≡ Some (Follows c k) → task_of n h ≡ Some (Follows c k)
 same_task p n c k d j e h l a b = a ∙ sym (task_stays p n e h (Follows d j) l a) ∙ b
 
-unsettled_unreleased : (p : Plan) (n c k : ℕ) (h : List Entry) → IsHistory p h → task_of n h ≡ Some (Follows c k) → settled_of c h + 1 ≡ k → has_released n h ≡ false
+pub unsettled_unreleased : (p : Plan) (n c k : ℕ) (h : List Entry) → IsHistory p h → task_of n h ≡ Some (Follows c k) → settled_of c h + 1 ≡ k → has_released n h ≡ false
 unsettled_unreleased p n c k h l t s = by_test (has_released n h) refl
   where
     by_test : (b : Bool) → has_released n h ≡ b → has_released n h ≡ false
