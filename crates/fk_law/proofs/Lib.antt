@@ -1,3 +1,4 @@
+pub mod Closing
 pub mod Committing
 pub mod Due
 pub mod Leading
@@ -5,9 +6,9 @@ pub mod Locking
 pub mod Losing
 pub mod Moving
 pub mod Numbers
-pub mod Starting
 pub mod Outcomes
 pub mod Passing
 pub mod Pushing
 pub mod Rising
 pub mod Settled
+pub mod Starting

@@ -104,7 +104,7 @@ one_of_two_commits p a t n c k s m d j path h more l u x y f b g i =
 
 -- Of one session. -------------------------------------------------------------------------------------
 
-its_push_before : (p : Plan) (t n c k : ℕ) (e : Entry) (h : List Entry) → IsHistory p (e ∷ h) → 1 ≤ t → t ≤ pushes_of h → IsPushOf t n c k (e ∷ h) → IsPushOf t n c k h
+pub its_push_before : (p : Plan) (t n c k : ℕ) (e : Entry) (h : List Entry) → IsHistory p (e ∷ h) → 1 ≤ t → t ≤ pushes_of h → IsPushOf t n c k (e ∷ h) → IsPushOf t n c k h
 its_push_before p t n c k e h l a b i = record { push = x.0; pushed = x.1; function = f; task = g }
   where
     x : (y : Push) × (push_of t h ≡ Some y)

@@ -1,3 +1,4 @@
+pub mod Closing
 pub mod Due
 pub mod Functions
 pub mod LeaderLane
