@@ -2,6 +2,7 @@ pub mod Closing
 pub mod Committing
 pub mod Due
 pub mod Leading
+pub mod Living
 pub mod Locking
 pub mod Losing
 pub mod Moving

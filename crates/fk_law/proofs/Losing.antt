@@ -19,7 +19,7 @@ use Rattle.fk_spec.specs.Follower.{Follower}
 use Rattle.fk_spec.specs.Function.{Following, place_of}
 use Rattle.fk_spec.specs.Next.{IsHistory}
 use Rattle.fk_law.specs.Due.{IsDue, IsPushOf, HoldsAll}
-use Rattle.fk_law.specs.Losing.{IsOthers, IsOvertaken, IsDead, DeadPushNeverCommits, OvertakenPushNeverCommits}
+use Rattle.fk_law.specs.Losing.{IsOthers, IsOvertaken, IsDead, DeadPushNeverCommits, OvertakenPushNeverCommits, LockMissIsDead, DeadStaysDead}
 use Rattle.fk_law.proofs.Due.{due}
 use Rattle.fk_law.proofs.Starting.{follower_task, task_stays}
 use Rattle.fk_law.proofs.Settled.{commit_of, session_of_its_push, task_at_most_next}
@@ -172,7 +172,7 @@ dead_stays p t e h l x = record {
   ];
 }
 
-pub dead_forever : (p : Plan) (t : ℕ) (h more : List Entry) → IsHistory p (more ++ h) → IsDead t h → IsDead t (more ++ h)
+pub dead_forever : DeadStaysDead
 dead_forever p t h [] l x = x
 dead_forever p t h (e ∷ more) l x = dead_stays p t e (more ++ h) l (dead_forever p t h more l.0 x)
 
@@ -183,7 +183,7 @@ pub overtaken_never_commits : OvertakenPushNeverCommits
 overtaken_never_commits p t n c k h more l w o u = dead_never_commits p t h more l (record { function = n; session = c; k = k; is_of = w; uncommitted = u; cause = inr o })
 
 -- a commit that misses: the push is dead or committed
-missed_lock : (p : Plan) (t m c k : ℕ) (h : List Entry) (x : Passed) → IsHistory p h → IsPushOf t m c k h → settled_of c h + 1 ≡ k → first_passed m h (in_path_order (granted m h)) ≡ Some x → IsDead t h
+pub missed_lock : (p : Plan) (t m c k : ℕ) (h : List Entry) (x : Passed) → IsHistory p h → IsPushOf t m c k h → settled_of c h + 1 ≡ k → first_passed m h (in_path_order (granted m h)) ≡ Some x → IsDead t h
 missed_lock p t m c k h x l w s e = record { function = m; session = c; k = k; is_of = w; uncommitted = by_commit (is_committed t h) refl; cause = inr (record { path = x.path; granted = i.0; other = by_grant (last_grant x.path h) (granted_has_grant m x.path h i.0) i.1 }) }
   where
     i : (has_path x.path (granted m h) ≡ true) × (is_held_by m h (last_grant x.path h) ≡ false)
@@ -201,7 +201,7 @@ missed_lock p t m c k h x l w s e = record { function = m; session = c; k = k; i
 abbrev pub IsOver : ℕ → List Entry → Type 0
 IsOver t h = IsDead t h ⊎ (is_committed t h ≡ true)
 
-settled_over : (p : Plan) (t m c k : ℕ) (h : List Entry) → IsPushOf t m c k h → k ≤ settled_of c h → IsOver t h
+pub settled_over : (p : Plan) (t m c k : ℕ) (h : List Entry) → IsPushOf t m c k h → k ≤ settled_of c h → IsOver t h
 settled_over p t m c k h w b = by_commit (is_committed t h) refl
   where
     by_commit : (b : Bool) → is_committed t h ≡ b → IsOver t h
@@ -213,5 +213,8 @@ missed_settled p n t s h l d =
     let w = commit_of p n t d.0 d.1 d.2 h l d.3 in
     settled_over p t d.0 d.1 d.2 h w (omega (arith, d.4, task_at_most_next p d.0 d.1 d.2 h l w.task))
 
+pub lock_miss_is_dead : LockMissIsDead
+lock_miss_is_dead p n t holder moment path h l d = missed_lock p t d.0 d.1 d.2 h (record { path = path; holder = holder; moment = moment }) l (commit_of p n t d.0 d.1 d.2 h l d.3) d.4 d.5
+
 pub missed_passed : (p : Plan) (n t holder moment : ℕ) (path : PathNames) (h : List Entry) → IsHistory p h → IsDue p h (op.CommitLock n t path holder moment) → IsOver t h
-missed_passed p n t holder moment path h l d = inl (missed_lock p t d.0 d.1 d.2 h (record { path = path; holder = holder; moment = moment }) l (commit_of p n t d.0 d.1 d.2 h l d.3) d.4 d.5)
+missed_passed p n t holder moment path h l d = inl (lock_miss_is_dead p n t holder moment path h l d)

@@ -15,8 +15,8 @@ use Rattle.fk_spec.specs.Locks.{Grant, is_push_of, last_grant, grant_in, granted
 use Rattle.fk_spec.specs.Settling.{is_committed, commits, settled_of, settled_in, count_settling}
 use Rattle.fk_spec.specs.Next.{IsHistory}
 use Rattle.fk_law.specs.Due.{IsDue, IsPushOf, HoldsAll}
-use Rattle.fk_law.specs.Rising.{IsOwn, CommitsRiseOnAPath, CommitsRiseInASession, CommitterHoldsItsPaths, OneOfTwoCommits}
-use Rattle.fk_law.specs.Losing.{IsOthers}
+use Rattle.fk_law.specs.Rising.{CommitsRiseOnAPath, CommitsRiseInASession, CommitterHoldsItsPaths, OneOfTwoCommits}
+use Rattle.fk_law.specs.Losing.{IsOthers, IsOwn}
 use Rattle.fk_law.proofs.Numbers.{at_most, above}
 use Rattle.fk_law.proofs.Due.{due}
 use Rattle.fk_law.proofs.Starting.{task_stays}
@@ -26,7 +26,7 @@ use Rattle.fk_law.proofs.Committing.{counts_more}
 use Rattle.fk_law.proofs.Committing.{its_push_is_one, committed_push, commits_once, one_push, committed_settled, is_push_of_it}
 use Rattle.fk_law.proofs.Losing.{holds_each, no_more_locks, its_pusher, overtaken_never_commits}
 
-held_own : (n : ℕ) (h : List Entry) (g : Option Grant) → is_held_by n h g ≡ true → IsOwn n g
+pub held_own : (n : ℕ) (h : List Entry) (g : Option Grant) → is_held_by n h g ≡ true → IsOwn n g
 held_own n h None e = absurd (false≢true e)
 held_own n h (Some g) e = grind (arith, nat_tests)
 

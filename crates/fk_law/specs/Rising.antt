@@ -10,11 +10,7 @@ use Rattle.fk_spec.specs.Locks.{Grant, last_grant, granted}
 use Rattle.fk_spec.specs.Settling.{is_committed}
 use Rattle.fk_spec.specs.Next.{IsHistory}
 use Rattle.fk_law.specs.Due.{IsDue, IsPushOf}
-
--- function n was granted it last
-abbrev pub IsOwn : ℕ → Option Grant → Type 0
-IsOwn n None = ⊥
-IsOwn n (Some g) = g.holder ≡ n
+use Rattle.fk_law.specs.Losing.{IsOwn}
 
 -- A push that commits is beyond each committed one whose function was granted one of its function's paths.
 abbrev pub CommitsRiseOnAPath : Type 0
