@@ -19,8 +19,8 @@ use Rattle.fk_spec.specs.Next.{IsHistory}
 use Rattle.fk_law.specs.Due.{IsDue, Acks}
 use Rattle.fk_law.specs.Functions.{IsFor}
 use Rattle.fk_law.specs.Losing.{IsDead}
-use Rattle.fk_law.specs.LeaderLane.{publishes, is_published, IsFinished, DoneIsRemovedOrOneMore, MarkBehindSweep, SweptAreCommitted, PublishedAreSwept, PublishedUpToTheMark, PushesBelowTheHeadAreFinished, CommitsAreBeyondTheSweep}
-use Rattle.fk_law.proofs.Numbers.{less_or_not}
+use Rattle.fk_law.specs.LeaderLane.{publishes, is_published, IsFinished, DoneIsRemovedOrOneMore, MarkBehindSweep, SweptAreCommitted, PublishedAreSwept, PublishedUpToTheMark, PushesBelowTheHeadAreFinished, CommitsAreBeyondTheSweep, StandsSo, Stands, LeaderStandsWhereItMay, LeaderWorksAtOrBelowTheHead, DoneWerePushed, PublishedAreCommitted, sweeps, is_swept, SweptUpToTheSweep}
+use Rattle.fk_law.proofs.Numbers.{at_most, above, less_or_not}
 use Rattle.fk_law.proofs.Due.{due}
 use Rattle.fk_law.proofs.Moving.{OnLeader, leader_step}
 use Rattle.fk_law.proofs.Starting.{leader_task, place_for}
@@ -37,30 +37,19 @@ pub push_reached : (p : Plan) (n t : ℕ) (h : List Entry) → IsHistory p h →
 push_reached p n t [] l i = absurd (grind arith)
 push_reached p n t (e ∷ h) l i = reached_step p n t h e.op (due p e h l) (push_reached p n t h l.0) i
 
+lead_pushed_step : (p : Plan) (n t : ℕ) (h : List Entry) (o : Op) → IsDue p h o → (task_of n h ≡ Some (Leads t) → t ≤ pushes_of h) → or_else (task_here n (started_in o)) (task_of n h) ≡ Some (Leads t) → t ≤ count_push (pushed_in 0 o) (pushes_of h)
+lead_pushed_step p n t h o d i e = grind (arith, nat_tests)
+
+lead_pushed : (p : Plan) (n t : ℕ) (h : List Entry) → IsHistory p h → task_of n h ≡ Some (Leads t) → t ≤ pushes_of h
+lead_pushed p n t [] l i = absurd (grind arith)
+lead_pushed p n t (e ∷ h) l i = lead_pushed_step p n t h e.op (due p e h l) (lead_pushed p n t h l.0) i
+
 finished_step : (t : ℕ) (h : List Entry) (o : Op) → (is_finished t h ≡ true → t ≤ done_of h) → (finishes t o || is_finished t h) ≡ true → t ≤ done_in o (done_of h)
 finished_step t h o i e = grind (arith, nat_tests)
 
 finished_done : (t : ℕ) (h : List Entry) → is_finished t h ≡ true → t ≤ done_of h
 finished_done t [] i = absurd (false≢true i)
 finished_done t (e ∷ h) i = finished_step t h e.op (finished_done t h) i
-
--- Where a leader stands, by what it has found of its push: that it is dead, that it is committed, and
--- whether it is done, swept, published.
-abbrev pub StandsSo : Type 0 → Bool → ℕ → ℕ → ℕ → ℕ → leader.Stage → Type 0
-StandsSo D c done swept mark t leader.Commit = Unit {0}
-StandsSo D c done swept mark t leader.Pending = D ⊎ (c ≡ true)
-StandsSo D c done swept mark t leader.Drop = D ⊎ (t ≤ done)
-StandsSo D c done swept mark t leader.Sweep = c ≡ true
-StandsSo D c done swept mark t (leader.Put path others) = (c ≡ true) × (t ≤ swept)
-StandsSo D c done swept mark t leader.Publish = (c ≡ true) × (t ≤ swept)
-StandsSo D c done swept mark t leader.Notify = (c ≡ true) × (t ≤ mark)
-StandsSo D c done swept mark t leader.Reply = (c ≡ true) × (t ≤ mark)
-StandsSo D c done swept mark t leader.Done = (c ≡ true) × (t ≤ mark)
-StandsSo D c done swept mark t leader.Ack = t ≤ done
-StandsSo D c done swept mark t leader.Ended = Unit {0}
-
-abbrev pub Stands : List Entry → ℕ → leader.Stage → Type 0
-Stands h t s = StandsSo (IsDead t h) (is_committed t h) (done_of h) (swept_of h) (mark_of h) t s
 
 either_grows : {A B C E : Type 0} → (A → B) → (C → E) → A ⊎ C → B ⊎ E
 either_grows f g (inl a) = inl (f a)
@@ -114,6 +103,7 @@ record IsInOrder (p : Plan) (h : List Entry) : Type 0 where
   pub mark : mark_of h ≤ swept_of h
   pub committed : 1 ≤ swept_of h → is_committed (swept_of h) h ≡ true
   pub published : (t : ℕ) → is_committed t h ≡ true → t ≤ mark_of h → is_published t h ≡ true
+  pub was_swept : (t : ℕ) → is_committed t h ≡ true → t ≤ swept_of h → is_swept t h ≡ true
   pub stands : (n : ℕ) → OnLeader (Stands h) (place_of p n h)
 
 stands_step : (p : Plan) (n : ℕ) (e : Entry) (h : List Entry) → IsHistory p (e ∷ h) → OnLeader (Stands h) (place_of p n h) → OnLeader (Stands (e ∷ h)) (place_of p n (e ∷ h))
@@ -206,6 +196,23 @@ published_step p u h (op.PublishOk n t) l d i a b = by_old (nat_le u (mark_of h)
     by_old false e = let f : u ≡ t = same (grind (arith, nat_tests)) (grind (arith, nat_tests)) in grind (arith, nat_tests)
 published_step p u h o l d i a b = let q = i.published u in grind (arith, nat_tests)
 
+-- a push up to the sweep's number that is newly committed or newly covered
+was_swept_step : (p : Plan) (u : ℕ) (h : List Entry) (o : Op) → IsHistory p h → IsDue p h o → IsInOrder p h → (commits u o || is_committed u h) ≡ true → u ≤ swept_in o (swept_of h) → (sweeps u o || is_swept u h) ≡ true
+was_swept_step p u h (op.CommitOk n t) l d i a b = let c = commit_beyond p n t h l d i in let q = i.was_swept u in grind (arith, nat_tests)
+was_swept_step p u h (op.SweepOk n t fired) l d i a b = by_old (nat_le u (swept_of h)) refl
+  where
+    r : Stands h t leader.Sweep × (1 ≤ t) × (t ≤ removed_by leads h + 1)
+    r = leading_at p n t leader.Sweep h l i d.0
+    not_finished : swept_of h < u → IsDead u h ⊎ ((is_committed u h ≡ true) × (u ≤ mark_of h)) → ⊥
+    not_finished m (inl x) = false≢true (sym x.uncommitted ∙ a)
+    not_finished m (inr x) = let k = i.mark in omega (arith, m, x.1, k)
+    same : swept_of h < u → u ≤ t → u ≡ t
+    same m c = let g = less_or_not (done_of h) u (λ x. not_finished m (i.finished u (omega (arith, m)) x)) in let y = i.between in let z = r.2 in omega (arith, g, y.0, z, c)
+    by_old : (c : Bool) → nat_le u (swept_of h) ≡ c → ((t == u) || is_swept u h) ≡ true
+    by_old true e = or_right (t == u) (is_swept u h) (i.was_swept u a (at_most u (swept_of h) e))
+    by_old false e = let m = above u (swept_of h) e in let f : u ≡ t = same m (grind (arith, nat_tests)) in grind (arith, nat_tests)
+was_swept_step p u h o l d i a b = let q = i.was_swept u in grind (arith, nat_tests)
+
 order_step : (p : Plan) (e : Entry) (h : List Entry) → IsHistory p (e ∷ h) → IsInOrder p h → IsInOrder p (e ∷ h)
 order_step p e h l i =
     let d = due p e h l in
@@ -218,11 +225,12 @@ order_step p e h l i =
       mark = u.2;
       committed = λ b. or_right (commits (swept_of (e ∷ h)) e.op) (is_committed (swept_of (e ∷ h)) h) (swept_committed p h e.op l.0 d i b);
       published = λ t a b. published_step p t h e.op l.0 d i a b;
+      was_swept = λ t a b. was_swept_step p t h e.op l.0 d i a b;
       stands = λ n. stands_step p n e h l (i.stands n);
     }
 
 in_order : (p : Plan) (h : List Entry) → IsHistory p h → IsInOrder p h
-in_order p [] l = record { between = (omega arith, omega arith); finished = λ t a b. absurd (omega (arith, a, b)); swept = omega arith; mark = omega arith; committed = λ b. absurd (omega (arith, b)); published = λ t a b. absurd (false≢true a); stands = λ n. tt }
+in_order p [] l = record { between = (omega arith, omega arith); finished = λ t a b. absurd (omega (arith, a, b)); swept = omega arith; mark = omega arith; committed = λ b. absurd (omega (arith, b)); published = λ t a b. absurd (false≢true a); was_swept = λ t a b. absurd (false≢true a); stands = λ n. tt }
 in_order p (e ∷ h) l = order_step p e h l (in_order p h l.0)
 
 -- The laws. -------------------------------------------------------------------------------------------
@@ -253,3 +261,29 @@ pushes_below_the_head p t h l a b = shown (i.finished t a (let c = i.between in 
 
 pub commits_are_beyond_the_sweep : CommitsAreBeyondTheSweep
 commits_are_beyond_the_sweep p n t h l d = commit_beyond p n t h l d (in_order p h l)
+
+pub swept_up_to_the_sweep : SweptUpToTheSweep
+swept_up_to_the_sweep p t h l a b = (in_order p h l).was_swept t a b
+
+pub leader_stands_where_it_may : LeaderStandsWhereItMay
+leader_stands_where_it_may p n t s h l b = (leading_at p n t s h l (in_order p h l) b).0
+
+pub leader_at_or_below_the_head : LeaderWorksAtOrBelowTheHead
+leader_at_or_below_the_head p n t h l b = let r = push_reached p n t h l b in (r.0, r.1, lead_pushed p n t h l b)
+
+published_mark_step : (p : Plan) (t : ℕ) (h : List Entry) (o : Op) → IsHistory p h → IsDue p h o → (is_published t h ≡ true → (is_committed t h ≡ true) × (t ≤ mark_of h)) → (publishes t o || is_published t h) ≡ true → ((commits t o || is_committed t h) ≡ true) × (t ≤ mark_in o (mark_of h))
+published_mark_step p t h (op.PublishOk n s) l d i e = let r = published_are_swept p n s h l d in grind (arith, nat_tests)
+published_mark_step p t h o l d i e = grind (arith, nat_tests)
+
+pub published_are_committed : PublishedAreCommitted
+published_are_committed p t [] l e = absurd (false≢true e)
+published_are_committed p t (e ∷ h) l i = published_mark_step p t h e.op l.0 (due p e h l) (published_are_committed p t h l.0) i
+
+done_step : (p : Plan) (h : List Entry) (o : Op) → IsHistory p h → IsDue p h o → done_of h ≤ pushes_of h → done_in o (done_of h) ≤ count_push (pushed_in 0 o) (pushes_of h)
+done_step p h (op.DropOk n t) l d i = let r = lead_pushed p n t h l (leader_task p n h t leader.Drop l d.0) in grind (arith, nat_tests)
+done_step p h (op.DoneOk n t) l d i = let r = lead_pushed p n t h l (leader_task p n h t leader.Done l d.0) in grind (arith, nat_tests)
+done_step p h o l d i = grind (arith, nat_tests)
+
+pub done_were_pushed : DoneWerePushed
+done_were_pushed p [] l = omega arith
+done_were_pushed p (e ∷ h) l = done_step p h e.op l.0 (due p e h l) (done_were_pushed p h l.0)
