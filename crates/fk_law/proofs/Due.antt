@@ -1,18 +1,19 @@
 -- What each operation line says of the entries before it: the only place where the rule of the next entry is opened.
-use Rattle.std.proofs.Common.{◌≡◌, ℕ, ◌+◌, Bool, true, List, [], ◌∷◌, refl, sym, ap, subst, arith, Option, Some, None}
+use Rattle.std.proofs.Common.{◌≡◌, ◌≢◌, ℕ, ◌+◌, ◌<◌, ◌≤◌, Bool, true, false, cond, List, [], ◌∷◌, refl, sym, ◌∙◌, ap, subst, arith, Option, Some, None}
 use Rattle.std.specs.Prelude.{◌==◌, nat_lt, nat_le}
 use Rattle.std.proofs.lemmas.Bool.{cond_both, eqb-true, eqb-false}
 use Rattle.std.proofs.lemmas.Bool.Decides.{nat_tests}
 use Rattle.fk_base.specs.Path.{PathNames}
 use Rattle.fk_tree.specs.Check.{Refusal}
 use Rattle.fk_tree.specs.Sorted.{in_path_order}
+use Rattle.fk_tree.specs.declared.request.Request.{Request}
 use Rattle.fk_print.specs.declared.entry.Entry.{Entry}
 use Rattle.fk_print.specs.declared.event.Event.{Event}
 use Rattle.fk_print.specs.declared.event.Event.TheVariants as event
 use Rattle.fk_print.specs.declared.op.Op.{Op}
 use Rattle.fk_print.specs.declared.op.Op.TheVariants as op
-use Rattle.fk_spec.specs.Plan.{Plan, Ask, Want, asked}
-use Rattle.fk_spec.specs.Start.{Task, Follows, Leads, Notifies, Probes, Push, clock_of, starts_of, task_of, push_of}
+use Rattle.fk_spec.specs.Plan.{Plan, Ask, Want, Unfit, Writes, Reads, asked}
+use Rattle.fk_spec.specs.Start.{Task, Follows, Leads, Notifies, Probes, Push, clock_of, starts_of, task_of, push_of, sends_of, written, request_in}
 use Rattle.fk_spec.specs.Locks.{Passed, granted, first_passed}
 use Rattle.fk_spec.specs.Settling.{settled_of}
 use Rattle.fk_spec.specs.Stored.{stored_view}
@@ -27,7 +28,7 @@ use Rattle.fk_spec.specs.Heartbeat.{beat_op, probe_op, open_op, unanswered_op}
 use Rattle.fk_spec.specs.Pings.{Noted, noted_of, pong_of}
 use Rattle.fk_spec.specs.Heartbeat as heartbeat
 use Rattle.fk_spec.specs.Function.{Place, Absent, Following, Leading, Telling, Beating, place_of, function_op, fault_op}
-use Rattle.fk_spec.specs.Client.{Client, Sent, Reading, client_op, client_of, failed_op, pong_or, take_or, look_or, look_sent_or, look_op, held_op, watch_or, register_asked, next_command_op, begin_op}
+use Rattle.fk_spec.specs.Client.{Client, Sent, Reading, client_op, client_of, failed_op, pong_or, take_or, look_or, look_sent_or, look_op, held_op, watch_or, register_asked, next_command_op, begin_op, local_if, may_begin}
 use Rattle.fk_spec.specs.Next.{next_op, follow_op, lead_op, tell_op, crash_op}
 use Rattle.fk_law.specs.Due.{IsDue, IsFollower, Commits, IsPushOf, EveryEntryIsDue}
 
@@ -160,12 +161,19 @@ watch_due : (p : Plan) (h : List Entry) (c : ℕ) (x : Client) (r : Option Readi
 watch_due p h c x None o d = d
 watch_due p h c x (Some r) o d = register_due p h c _ _ _
 
-begin_due : (p : Plan) (h : List Entry) (c i : ℕ) (closed : Bool) (w : Want) → IsDue p h (begin_op p c i h closed w)
-begin_due p h c i closed w = grind (arith, nat_tests)
+send_due : (p : Plan) (h : List Entry) (c i : ℕ) (closed : Bool) (a : Ask) (r : Request) → asked p c i ≡ Some a → a.want ≡ Writes r → IsDue p h (local_if closed c i (op.Send c i (sends_of c h + 1)))
+send_due p h c i true a r e w = tt
+send_due p h c i false a r e w = (refl, r, ap written e ∙ ap request_in w)
 
-next_command_due : (p : Plan) (h : List Entry) (c : ℕ) (x : Client) (a : Option Ask) → IsDue p h (next_command_op p c h x a)
-next_command_due p h c x None = tt
-next_command_due p h c x (Some a) = grind (arith, begin_due p h c)
+begin_due : (p : Plan) (h : List Entry) (c i : ℕ) (closed : Bool) (a : Ask) (w : Want) → asked p c i ≡ Some a → a.want ≡ w → IsDue p h (begin_op p c i h closed w)
+begin_due p h c i closed a Unfit e f = tt
+begin_due p h c i closed a (Writes r) e f = send_due p h c i closed a r e f
+begin_due p h c i true a (Reads q watch) e f = tt
+begin_due p h c i false a (Reads q watch) e f = tt
+
+next_command_due : (p : Plan) (h : List Entry) (c : ℕ) (x : Client) (a : Option Ask) → asked p c (x.begun + 1) ≡ a → IsDue p h (next_command_op p c h x a)
+next_command_due p h c x None e = tt
+next_command_due p h c x (Some a) e = cond_both (may_begin p c a x.sent) (begin_op p c (x.begun + 1) h x.closed a.want) op.Idle (IsDue p h) (λ _. begin_due p h c (x.begun + 1) x.closed a a.want e refl) (λ _. tt)
 
 take_due : (p : Plan) (h : List Entry) (c : ℕ) (ms : List Message) (o : Op) → IsDue p h o → IsDue p h (take_or c ms o)
 take_due p h c [] o d = d
@@ -178,7 +186,7 @@ pong_due p h c (n ∷ ns) o d = tt
 client_due : (p : Plan) (h : List Entry) (c : ℕ) → IsDue p h (client_op p c h)
 client_due p h c =
     let x = client_of p c h in
-    pong_due p h c x.owed _ (take_due p h c (inbox_of p c h) _ (look_or_due p h c x x.reading _ (watch_due p h c x x.reading _ (next_command_due p h c x (asked p c (x.begun + 1))))))
+    pong_due p h c x.owed _ (take_due p h c (inbox_of p c h) _ (look_or_due p h c x x.reading _ (watch_due p h c x x.reading _ (next_command_due p h c x (asked p c (x.begun + 1)) refl))))
 
 failed_due : (p : Plan) (h : List Entry) (o : Op) → IsDue p h o → IsDue p h (failed_op o)
 failed_due p h o d = grind arith

@@ -11,5 +11,6 @@ pub mod Outcomes
 pub mod Passing
 pub mod Pushing
 pub mod Rising
+pub mod Sending
 pub mod Settled
 pub mod Starting

@@ -4,11 +4,12 @@ use Rattle.fk_base.specs.Path.{PathNames}
 use Rattle.fk_base.specs.declared.code.Code.{Code}
 use Rattle.fk_base.specs.declared.code.Code.TheVariants as code
 use Rattle.fk_tree.specs.Sorted.{in_path_order}
+use Rattle.fk_tree.specs.declared.request.Request.{Request}
 use Rattle.fk_print.specs.declared.entry.Entry.{Entry}
 use Rattle.fk_print.specs.declared.op.Op.{Op}
 use Rattle.fk_print.specs.declared.op.Op.TheVariants as op
-use Rattle.fk_spec.specs.Plan.{Plan}
-use Rattle.fk_spec.specs.Start.{Follows, Push, clock_of, starts_of, task_of, pushes_of, push_of, sends_of}
+use Rattle.fk_spec.specs.Plan.{Plan, asked}
+use Rattle.fk_spec.specs.Start.{Follows, Push, clock_of, starts_of, task_of, pushes_of, push_of, sends_of, written}
 use Rattle.fk_spec.specs.Locks.{last_grant, may_grant, granted, first_passed}
 use Rattle.fk_spec.specs.Settling.{Outcome, Committed, settled_of, outcome_of, is_pending, done_of, swept_of, mark_of}
 use Rattle.fk_spec.specs.Stored.{stored_view, stamp_of}
@@ -135,7 +136,7 @@ IsDue p h (op.Ping n c) = place_of p n h ≡ Beating c heartbeat.Ping
 IsDue p h (op.NoteOk n) = (c : ℕ) × (place_of p n h ≡ Beating c heartbeat.Note)
 IsDue p h (op.NoteMiss n ping) = (c : ℕ) × (place_of p n h ≡ Beating c heartbeat.Note)
 IsDue p h (op.Evict n k) = (c : ℕ) × (place_of p n h ≡ Beating c heartbeat.Evict) × (k ≡ sends_of c h + 1)
-IsDue p h (op.Send c command k) = k ≡ sends_of c h + 1
+IsDue p h (op.Send c command k) = (k ≡ sends_of c h + 1) × (r : Request) × (written (asked p c command) ≡ Some r)
 IsDue p h _ = Unit {0}
 
 -- Each entry of a history is due.

@@ -6,5 +6,6 @@ pub mod Locking
 pub mod Losing
 pub mod Progress
 pub mod Pushes
+pub mod Requests
 pub mod Rising
 pub mod Settled

@@ -11,6 +11,7 @@ mod locks;
 mod lost_locks;
 mod pushes;
 mod request_outcomes;
+mod sent_requests;
 mod settlings;
 
 pub use closed_sessions::{at_work_is_open, closed_has_no_live_push, no_commit_after_close};
@@ -23,4 +24,5 @@ pub use locks::{at_work_is_unreleased, lock_names_a_granted_path, locks_are_foll
 pub use lost_locks::{dead_push_never_commits, dead_stays_dead, lock_miss_is_dead, overtaken_push_never_commits, settled_miss_is_over};
 pub use pushes::{committer_commits_a_push, each_number_is_a_push, one_push_for_each_function, push_is_of_a_request, push_never_changes, pushes_are_numbered};
 pub use request_outcomes::{applied_is_committed, one_commit_for_each_request, outcome_is_of_a_settled, outcome_never_changes, settled_have_an_outcome};
+pub use sent_requests::{committed_is_filled, committed_never_changes, filled_is_committed, push_asks_for_its_request, pushed_never_changes, request_never_changes, request_was_sent, sent_has_a_request};
 pub use settlings::{answered_is_settled, at_work_is_unpushed, commits_once, committed_is_settled, message_is_reached, settled_is_removed_or_one_more, settled_were_sent, settles_the_next};
