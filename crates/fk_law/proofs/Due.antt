@@ -1,0 +1,225 @@
+-- What each operation line says of the entries before it: the only place where the rule of the next entry is opened.
+use Rattle.std.proofs.Common.{◌≡◌, ◌≢◌, ℕ, ◌+◌, ◌<◌, ◌≤◌, Bool, true, false, cond, List, [], ◌∷◌, refl, sym, ◌∙◌, ap, subst, arith, Option, Some, None}
+use Rattle.std.specs.Prelude.{◌==◌, nat_lt, nat_le}
+use Rattle.std.proofs.lemmas.Bool.{cond_both, eqb-true, eqb-false}
+use Rattle.std.proofs.lemmas.Bool.Decides.{nat_tests}
+use Rattle.fk_base.specs.Path.{PathNames}
+use Rattle.fk_tree.specs.Check.{Refusal}
+use Rattle.fk_tree.specs.Sorted.{in_path_order}
+use Rattle.fk_tree.specs.declared.request.Request.{Request}
+use Rattle.fk_print.specs.declared.entry.Entry.{Entry}
+use Rattle.fk_print.specs.declared.event.Event.{Event}
+use Rattle.fk_print.specs.declared.event.Event.TheVariants as event
+use Rattle.fk_print.specs.declared.op.Op.{Op}
+use Rattle.fk_print.specs.declared.op.Op.TheVariants as op
+use Rattle.fk_spec.specs.Plan.{Plan, Ask, Want, Unfit, Writes, Reads, asked}
+use Rattle.fk_spec.specs.Start.{Task, Follows, Leads, Notifies, Probes, Push, clock_of, starts_of, task_of, push_of, sends_of, written, request_in}
+use Rattle.fk_spec.specs.Locks.{Passed, granted, first_passed}
+use Rattle.fk_spec.specs.Settling.{settled_of}
+use Rattle.fk_spec.specs.Stored.{stored_view}
+use Rattle.fk_spec.specs.Lanes.{session_head, leader_head, watch_head, Message, inbox_of}
+use Rattle.fk_spec.specs.Follower.{Follower, follower_op, session_op, unsettled_op, settled_op, lock_op, busy_op, commit_op, commit_locked, refuse_op, refuse_locked, expire_op, lost_op, ack_op, is_number}
+use Rattle.fk_spec.specs.Follower as follower
+use Rattle.fk_spec.specs.Leader.{leader_op, of_push, for_push, for_task}
+use Rattle.fk_spec.specs.Leader as leader
+use Rattle.fk_spec.specs.Teller.{teller_op}
+use Rattle.fk_spec.specs.Teller as teller
+use Rattle.fk_spec.specs.Heartbeat.{beat_op, probe_op, open_op, unanswered_op}
+use Rattle.fk_spec.specs.Pings.{Noted, noted_of, pong_of}
+use Rattle.fk_spec.specs.Heartbeat as heartbeat
+use Rattle.fk_spec.specs.Function.{Place, Absent, Following, Leading, Telling, Beating, place_of, function_op, fault_op}
+use Rattle.fk_spec.specs.Client.{Client, Sent, Reading, client_op, client_of, failed_op, pong_or, take_or, look_or, look_sent_or, look_op, held_op, watch_or, register_asked, next_command_op, begin_op, local_if, may_begin}
+use Rattle.fk_spec.specs.Next.{next_op, follow_op, lead_op, tell_op, crash_op}
+use Rattle.fk_law.specs.Due.{IsDue, IsFollower, Commits, IsPushOf, EveryEntryIsDue}
+
+-- A follower's. --------------------------------------------------------------------------------------
+
+session_due : (p : Plan) (h : List Entry) (n : ℕ) (f : Follower) → IsFollower p n h f → f.stage ≡ follower.Session → IsDue p h (session_op p h n f.session f.k)
+session_due p h n f l s = grind (arith, nat_tests)
+
+lock_due : (p : Plan) (h : List Entry) (n : ℕ) (f : Follower) (path : PathNames) → IsFollower p n h f → f.stage ≡ follower.Lock path → IsDue p h (lock_op p.lock h n path)
+lock_due p h n f path l s = grind (arith, nat_tests)
+
+commit_due : (p : Plan) (h : List Entry) (n t m c k : ℕ) → Commits n t m c k h (place_of p n h) → IsDue p h (commit_op h n t m c k)
+commit_due p h n t m c k l =
+    cond_both (settled_of c h + 1 == k) (commit_locked n t (first_passed m h (in_path_order (granted m h)))) (op.CommitSettled n t (settled_of c h)) (IsDue p h)
+    (λ s. locked (first_passed m h (in_path_order (granted m h))) refl (eqb-true _ _ s))
+    (λ s. (m, c, k, l, eqb-false _ _ s))
+  where
+    locked : (o : Option Passed) → first_passed m h (in_path_order (granted m h)) ≡ o → settled_of c h + 1 ≡ k → IsDue p h (commit_locked n t o)
+    locked None e s = (m, c, k, l, s, e)
+    locked (Some x) e s = (m, c, k, l, s, e)
+
+refuse_due : (p : Plan) (h : List Entry) (n : ℕ) (f : Follower) (r : Refusal) (at : ℕ) → IsFollower p n h f → f.stage ≡ follower.Refuse r at → IsDue p h (refuse_op h n r at f.session f.k)
+refuse_due p h n f r at l s = grind (arith, nat_tests)
+
+expire_due : (p : Plan) (h : List Entry) (n : ℕ) (f : Follower) (at : ℕ) → IsFollower p n h f → f.stage ≡ follower.Expire at → IsDue p h (expire_op h n at f.session f.k)
+expire_due p h n f at l s = grind (arith, nat_tests)
+
+lost_due : (p : Plan) (h : List Entry) (n : ℕ) (f : Follower) → IsFollower p n h f → f.stage ≡ follower.Lost → IsDue p h (lost_op h n f.session f.k)
+lost_due p h n f l s = grind (arith, nat_tests)
+
+is_number_is : (n : ℕ) (o : Option ℕ) → is_number n o ≡ true → o ≡ Some n
+is_number_is n None e = grind arith
+is_number_is n (Some m) e = grind (arith, nat_tests)
+
+ack_due : (p : Plan) (h : List Entry) (n : ℕ) (f : Follower) → IsFollower p n h f → f.stage ≡ follower.Ack → IsDue p h (ack_op n f.k (session_head f.session h))
+ack_due p h n f l s = grind (arith, nat_tests, is_number_is f.k (session_head f.session h))
+
+follower_due : (p : Plan) (h : List Entry) (n : ℕ) (f : Follower) (s : follower.Stage) → IsFollower p n h f → f.stage ≡ s → IsDue p h (follower_op p h n f s)
+follower_due p h n f follower.Session l e = session_due p h n f l e
+follower_due p h n f follower.Owned l e = (f, l, e)
+follower_due p h n f (follower.Lock path) l e = lock_due p h n f path l e
+follower_due p h n f follower.Push l e = (f, l, e, refl)
+follower_due p h n f (follower.Refuse r at) l e = refuse_due p h n f r at l e
+follower_due p h n f (follower.Expire at) l e = expire_due p h n f at l e
+follower_due p h n f (follower.Commit t) l e = commit_due p h n t n f.session f.k (grind arith)
+follower_due p h n f follower.Lost l e = lost_due p h n f l e
+follower_due p h n f follower.Reply l e = grind arith
+follower_due p h n f follower.Ack l e = ack_due p h n f l e
+follower_due p h n f follower.Ended l e = tt
+
+-- A leader's, a watch function's and a heartbeat's. ---------------------------------------------------
+
+of_push_due : (p : Plan) (h : List Entry) (t : ℕ) (g : ℕ → ℕ → ℕ → Op) → ((m c k : ℕ) → IsPushOf t m c k h → IsDue p h (g m c k)) → IsDue p h (of_push t h g)
+of_push_due p h t g d = pushed (push_of t h) refl
+  where
+    tasked : (x : Push) (o : Option Task) → push_of t h ≡ Some x → task_of x.function h ≡ o → IsDue p h (for_task o (λ c k. g x.function c k))
+    tasked x None e f = tt
+    tasked x (Some (Follows c k)) e f = d x.function c k (record { push = x; pushed = e; function = refl; task = f })
+    tasked x (Some (Leads s)) e f = tt
+    tasked x (Some (Notifies w)) e f = tt
+    tasked x (Some (Probes c)) e f = tt
+    pushed : (o : Option Push) → push_of t h ≡ o → IsDue p h (for_push h o g)
+    pushed None e = tt
+    pushed (Some x) e = tasked x (task_of x.function h) e refl
+
+leader_commit_due : (p : Plan) (h : List Entry) (n t : ℕ) → place_of p n h ≡ Leading t leader.Commit → (m c k : ℕ) → IsPushOf t m c k h → IsDue p h (commit_op h n t m c k)
+leader_commit_due p h n t l m c k x = commit_due p h n t m c k (subst (Commits n t m c k h) (sym l) (refl, refl, x))
+
+leader_reply_due : (p : Plan) (h : List Entry) (n t : ℕ) → place_of p n h ≡ Leading t leader.Reply → (m c k : ℕ) → IsPushOf t m c k h → IsDue p h (op.Reply n c k)
+leader_reply_due p h n t l m c k x = grind arith
+
+leader_due : (p : Plan) (h : List Entry) (n t : ℕ) (s : leader.Stage) → place_of p n h ≡ Leading t s → IsDue p h (leader_op p h n t s)
+leader_due p h n t leader.Commit l = of_push_due p h t (λ m c k. commit_op h n t m c k) (leader_commit_due p h n t l)
+leader_due p h n t leader.Reply l = of_push_due p h t (λ m c k. op.Reply n c k) (leader_reply_due p h n t l)
+leader_due p h n t leader.Ack l = grind (arith, nat_tests, is_number_is t (leader_head h))
+leader_due p h n t leader.Ended l = tt
+leader_due p h n t s l = grind (arith, nat_tests)
+
+teller_due : (p : Plan) (h : List Entry) (n w t : ℕ) (s : teller.Stage) → place_of p n h ≡ Telling w t s → IsDue p h (teller_op h n w t s)
+teller_due p h n w t teller.Ack l = grind (arith, nat_tests, is_number_is w (watch_head h))
+teller_due p h n w t s l = grind (arith, nat_tests)
+
+unanswered_due : (p : Plan) (h : List Entry) (n c clock : ℕ) (x : Noted) → place_of p n h ≡ Beating c heartbeat.Probe → IsDue p h (unanswered_op n p.beat clock x)
+unanswered_due p h n c clock x l = cond_both (nat_lt (x.moment + p.beat) clock) (op.ProbeLate n x.ping x.moment) (op.ProbeWaiting n) (IsDue p h) (λ _. (c, l)) (λ _. (c, l))
+
+open_due : (p : Plan) (h : List Entry) (n c clock pong : ℕ) (x : Noted) → place_of p n h ≡ Beating c heartbeat.Probe → IsDue p h (open_op n p.beat clock pong x)
+open_due p h n c clock pong x l = cond_both (nat_le x.ping pong) (op.ProbeFresh n) (unanswered_op n p.beat clock x) (IsDue p h) (λ _. (c, l)) (λ _. unanswered_due p h n c clock x l)
+
+probe_due : (p : Plan) (h : List Entry) (n c : ℕ) → place_of p n h ≡ Beating c heartbeat.Probe → IsDue p h (probe_op p h n c)
+probe_due p h n c l = cond_both ((stored_view p h).closed c) (op.ProbeClosed n) (open_op n p.beat (clock_of h) (pong_of c h) (noted_of c h)) (IsDue p h) (λ _. (c, l)) (λ _. open_due p h n c (clock_of h) (pong_of c h) (noted_of c h) l)
+
+beat_due : (p : Plan) (h : List Entry) (n c : ℕ) (s : heartbeat.Stage) → place_of p n h ≡ Beating c s → IsDue p h (beat_op p h n c s)
+beat_due p h n c heartbeat.Probe l = probe_due p h n c l
+beat_due p h n c heartbeat.Ping l = l
+beat_due p h n c heartbeat.Note l = cond_both (nat_lt (noted_of c h).ping n) (op.NoteOk n) (op.NoteMiss n (noted_of c h).ping) (IsDue p h) (λ _. (c, l)) (λ _. (c, l))
+beat_due p h n c heartbeat.Evict l = (c, l, refl)
+beat_due p h n c heartbeat.Ended l = tt
+
+function_due : (p : Plan) (h : List Entry) (n : ℕ) (x : Place) → place_of p n h ≡ x → IsDue p h (function_op p h n x)
+function_due p h n Absent e = tt
+function_due p h n (Following f) e = follower_due p h n f f.stage e refl
+function_due p h n (Leading t s) e = leader_due p h n t s e
+function_due p h n (Telling w t s) e = teller_due p h n w t s e
+function_due p h n (Beating c s) e = beat_due p h n c s e
+
+fault_due : (p : Plan) (h : List Entry) (n : ℕ) (x : Place) → place_of p n h ≡ x → IsDue p h (fault_op n x)
+fault_due p h n Absent e = tt
+fault_due p h n x e = grind arith
+
+-- A client's. -----------------------------------------------------------------------------------------
+
+held_due : (p : Plan) (h : List Entry) (c i mark : ℕ) (o : Option ℕ) → IsDue p h (held_op c i mark o)
+held_due p h c i mark o = grind arith
+
+look_due : (p : Plan) (h : List Entry) (c i : ℕ) (held : List ℕ) (number : ℕ) → IsDue p h (look_op p c h i held number)
+look_due p h c i held number = grind (arith, nat_tests)
+
+look_sent_due : (p : Plan) (h : List Entry) (c : ℕ) (x : Client) (ss : List Sent) (o : Op) → IsDue p h o → IsDue p h (look_sent_or p c h x ss o)
+look_sent_due p h c x [] o d = d
+look_sent_due p h c x (s ∷ ss) o d = grind (arith, nat_tests)
+
+look_or_due : (p : Plan) (h : List Entry) (c : ℕ) (x : Client) (r : Option Reading) (o : Op) → IsDue p h o → IsDue p h (look_or p c h x r o)
+look_or_due p h c x None o d = look_sent_due p h c x x.sent o d
+look_or_due p h c x (Some r) o d = grind (arith, nat_tests, look_sent_due p h c x x.sent o d)
+
+register_due : (p : Plan) (h : List Entry) (c i number : ℕ) (a : Option Ask) → IsDue p h (register_asked p c h i number a)
+register_due p h c i number a = grind (arith, nat_tests)
+
+watch_due : (p : Plan) (h : List Entry) (c : ℕ) (x : Client) (r : Option Reading) (o : Op) → IsDue p h o → IsDue p h (watch_or p c h x r o)
+watch_due p h c x None o d = d
+watch_due p h c x (Some r) o d = register_due p h c _ _ _
+
+send_due : (p : Plan) (h : List Entry) (c i : ℕ) (closed : Bool) (a : Ask) (r : Request) → asked p c i ≡ Some a → a.want ≡ Writes r → IsDue p h (local_if closed c i (op.Send c i (sends_of c h + 1)))
+send_due p h c i true a r e w = tt
+send_due p h c i false a r e w = (refl, r, ap written e ∙ ap request_in w)
+
+begin_due : (p : Plan) (h : List Entry) (c i : ℕ) (closed : Bool) (a : Ask) (w : Want) → asked p c i ≡ Some a → a.want ≡ w → IsDue p h (begin_op p c i h closed w)
+begin_due p h c i closed a Unfit e f = tt
+begin_due p h c i closed a (Writes r) e f = send_due p h c i closed a r e f
+begin_due p h c i true a (Reads q watch) e f = tt
+begin_due p h c i false a (Reads q watch) e f = tt
+
+next_command_due : (p : Plan) (h : List Entry) (c : ℕ) (x : Client) (a : Option Ask) → asked p c (x.begun + 1) ≡ a → IsDue p h (next_command_op p c h x a)
+next_command_due p h c x None e = tt
+next_command_due p h c x (Some a) e = cond_both (may_begin p c a x.sent) (begin_op p c (x.begun + 1) h x.closed a.want) op.Idle (IsDue p h) (λ _. begin_due p h c (x.begun + 1) x.closed a a.want e refl) (λ _. tt)
+
+take_due : (p : Plan) (h : List Entry) (c : ℕ) (ms : List Message) (o : Op) → IsDue p h o → IsDue p h (take_or c ms o)
+take_due p h c [] o d = d
+take_due p h c (m ∷ ms) o d = grind arith
+
+pong_due : (p : Plan) (h : List Entry) (c : ℕ) (pings : List ℕ) (o : Op) → IsDue p h o → IsDue p h (pong_or c pings o)
+pong_due p h c [] o d = d
+pong_due p h c (n ∷ ns) o d = tt
+
+client_due : (p : Plan) (h : List Entry) (c : ℕ) → IsDue p h (client_op p c h)
+client_due p h c =
+    let x = client_of p c h in
+    pong_due p h c x.owed _ (take_due p h c (inbox_of p c h) _ (look_or_due p h c x x.reading _ (watch_due p h c x x.reading _ (next_command_due p h c x (asked p c (x.begun + 1)) refl))))
+
+failed_due : (p : Plan) (h : List Entry) (o : Op) → IsDue p h o → IsDue p h (failed_op o)
+failed_due p h o d = grind arith
+
+-- Each event's. ---------------------------------------------------------------------------------------
+
+follow_due : (p : Plan) (h : List Entry) (c : ℕ) (o : Option ℕ) → session_head c h ≡ o → IsDue p h (follow_op (starts_of h + 1) c o)
+follow_due p h c None e = tt
+follow_due p h c (Some k) e = (refl, e)
+
+lead_due : (p : Plan) (h : List Entry) (o : Option ℕ) → leader_head h ≡ o → IsDue p h (lead_op (starts_of h + 1) o)
+lead_due p h None e = tt
+lead_due p h (Some t) e = (refl, e)
+
+tell_due : (p : Plan) (h : List Entry) (o : Option ℕ) → watch_head h ≡ o → IsDue p h (tell_op (starts_of h + 1) o)
+tell_due p h None e = tt
+tell_due p h (Some w) e = (refl, e)
+
+crash_due : (p : Plan) (h : List Entry) (n : ℕ) (x : Place) → place_of p n h ≡ x → IsDue p h (crash_op n x)
+crash_due p h n Absent e = tt
+crash_due p h n x e = grind arith
+
+event_due : (p : Plan) (h : List Entry) (v : Event) → IsDue p h (next_op p h v)
+event_due p h (event.Client c) = client_due p h c
+event_due p h (event.Deliver c) = follow_due p h c (session_head c h) refl
+event_due p h event.Leader = lead_due p h (leader_head h) refl
+event_due p h event.Watch = tell_due p h (watch_head h) refl
+event_due p h (event.Beat c) = refl
+event_due p h (event.Step n) = function_due p h n (place_of p n h) refl
+event_due p h (event.Crash n) = crash_due p h n (place_of p n h) refl
+event_due p h (event.Fail n) = fault_due p h n (place_of p n h) refl
+event_due p h (event.FailClient c) = failed_due p h (client_op p c h) (client_due p h c)
+event_due p h (event.Clock moment) = grind (arith, nat_tests)
+
+pub due : EveryEntryIsDue
+due p e h l = subst (IsDue p h) (sym (ap (λ x. x.op) l.1)) (event_due p h e.event)

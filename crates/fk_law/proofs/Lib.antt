@@ -1,0 +1,16 @@
+pub mod Closing
+pub mod Committing
+pub mod Due
+pub mod Leading
+pub mod Living
+pub mod Locking
+pub mod Losing
+pub mod Moving
+pub mod Numbers
+pub mod Outcomes
+pub mod Passing
+pub mod Pushing
+pub mod Rising
+pub mod Sending
+pub mod Settled
+pub mod Starting

@@ -1,0 +1,11 @@
+pub mod Closing
+pub mod Due
+pub mod Functions
+pub mod LeaderLane
+pub mod Locking
+pub mod Losing
+pub mod Progress
+pub mod Pushes
+pub mod Requests
+pub mod Rising
+pub mod Settled
