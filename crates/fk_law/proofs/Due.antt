@@ -1,5 +1,5 @@
 -- What each operation line says of the entries before it: the only place where the rule of the next entry is opened.
-use Rattle.std.proofs.Common.{◌≡◌, ◌≢◌, ℕ, ◌+◌, ◌<◌, ◌≤◌, Bool, true, false, cond, List, [], ◌∷◌, refl, sym, ◌∙◌, ap, subst, arith, Option, Some, None}
+use Rattle.std.proofs.Common.{◌≡◌, ℕ, ◌+◌, Bool, true, false, List, [], ◌∷◌, refl, sym, ◌∙◌, ap, subst, arith, Option, Some, None}
 use Rattle.std.specs.Prelude.{◌==◌, nat_lt, nat_le}
 use Rattle.std.proofs.lemmas.Bool.{cond_both, eqb-true, eqb-false}
 use Rattle.std.proofs.lemmas.Bool.Decides.{nat_tests}
@@ -90,6 +90,7 @@ of_push_due p h t g d = pushed (push_of t h) refl
     tasked x (Some (Leads s)) e f = tt
     tasked x (Some (Notifies w)) e f = tt
     tasked x (Some (Probes c)) e f = tt
+
     pushed : (o : Option Push) → push_of t h ≡ o → IsDue p h (for_push h o g)
     pushed None e = tt
     pushed (Some x) e = tasked x (task_of x.function h) e refl

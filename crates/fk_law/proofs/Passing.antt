@@ -1,20 +1,19 @@
 -- A follower that lost a lock.
-use Rattle.std.specs.Prelude.{◌==◌, ◌||◌, ◌&&◌, not, is_some}
-use Rattle.std.proofs.Common.{◌≡◌, ◌≢◌, ℕ, ◌+◌, ◌<◌, ◌≤◌, ◌++◌, Bool, true, false, cond, List, [], ◌∷◌, refl, sym, ◌∙◌, ap, subst, arith, Option, Some, None}
+use Rattle.std.specs.Prelude.{◌==◌, is_some}
+use Rattle.std.proofs.Common.{◌≡◌, ◌≢◌, ℕ, ◌+◌, ◌<◌, ◌≤◌, Bool, true, false, List, [], ◌∷◌, refl, sym, ◌∙◌, ap, subst, arith, Option, Some, None}
 use Rattle.std.proofs.lemmas.Bool.{false≢true}
 use Rattle.std.proofs.lemmas.Bool.Decides.{nat_tests}
-use Rattle.fk_base.specs.Path.{PathNames, same_path}
+use Rattle.fk_base.specs.Path.{PathNames}
 use Rattle.fk_base.specs.declared.code.Code.{Code}
 use Rattle.fk_tree.specs.Sorted.{has_path, in_path_order}
 use Rattle.fk_print.specs.declared.entry.Entry.{Entry}
 use Rattle.fk_print.specs.declared.op.Op.{Op}
 use Rattle.fk_print.specs.declared.op.Op.TheVariants as op
 use Rattle.fk_spec.specs.Plan.{Plan}
-use Rattle.fk_spec.specs.Start.{Start, Task, Follows, clock_of, task_of, task_here, starts_of, started_in, count_start, or_else}
-use Rattle.fk_spec.specs.Locks.{Grant, Passed, Loss, last_grant, granted, has_released, is_held_by, first_passed, passed_on, own_moment, own_moment_in, loss_of, loss_in}
+use Rattle.fk_spec.specs.Start.{Start, Task, Follows, task_of, task_here, starts_of, started_in, count_start, or_else}
+use Rattle.fk_spec.specs.Locks.{Grant, Passed, Loss, last_grant, granted, has_released, is_held_by, first_passed, passed_on, own_moment, loss_of, loss_in}
 use Rattle.fk_spec.specs.Settling.{settled_of}
-use Rattle.fk_spec.specs.Follower.{Follower}
-use Rattle.fk_spec.specs.Function.{Place, Absent, Following, Leading, Telling, Beating, place_of, is_absent, actor}
+use Rattle.fk_spec.specs.Function.{Place, place_of, is_absent, actor}
 use Rattle.fk_spec.specs.Next.{IsHistory}
 use Rattle.fk_law.specs.Due.{IsDue, Commits}
 use Rattle.fk_law.specs.Functions.{IsFor}
