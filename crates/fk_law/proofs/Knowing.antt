@@ -1,4 +1,4 @@
--- What a follower knows of its session, and the watch functions' notes.
+-- What a follower knows of its session's commits.
 use Rattle.std.specs.Prelude.{◌==◌, ◌||◌, nat_eq}
 use Rattle.std.proofs.Common.{◌≡◌, ℕ, ◌+◌, ◌≤◌, Bool, true, false, cond, List, [], ◌∷◌, refl, sym, ◌∙◌, ap, subst, arith, Some}
 use Rattle.std.proofs.lemmas.Bool.{false≢true}
@@ -15,7 +15,7 @@ use Rattle.fk_spec.specs.Function.{Following, place_of, actor}
 use Rattle.fk_spec.specs.Next.{IsHistory}
 use Rattle.fk_law.specs.Due.{IsDue, IsPushOf}
 use Rattle.fk_law.specs.Progress.{Progress, Works, progress, progress_after}
-use Rattle.fk_law.specs.Knowing.{LastIsCommitted, LastIsTheGreatest, CommitIsBeyondTheLast, AtWorkKnowsTheLast, TellerWorksAtOrBelowTheHead}
+use Rattle.fk_law.specs.Knowing.{LastIsCommitted, LastIsTheGreatest, CommitIsBeyondTheLast, AtWorkKnowsTheLast}
 use Rattle.fk_law.proofs.Due.{due}
 use Rattle.fk_law.proofs.Numbers.{less_or_not}
 use Rattle.fk_law.proofs.Moving.{OnWhole, whole_step, last_after}
@@ -25,13 +25,6 @@ use Rattle.fk_law.proofs.Pushing.{push_bound}
 use Rattle.fk_law.proofs.Settled.{commit_of, session_of_its_push, task_at_most_next}
 use Rattle.fk_law.proofs.Committing.{its_push_is_one, its_push_stays}
 use Rattle.fk_law.proofs.Rising.{commits_rise_in_a_session, its_push_before, pushed_before}
-
-teller_step : (p : Plan) (n w : ℕ) (h : List Entry) (o : Op) → IsDue p h o → (task_of n h ≡ Some (Notifies w) → (1 ≤ w) × (w ≤ removed_by notifies h + 1) × (w ≤ notes_of h)) → or_else (task_here n (started_in o)) (task_of n h) ≡ Some (Notifies w) → (1 ≤ w) × (w ≤ removed_in notifies h o (removed_by notifies h) + 1) × (w ≤ note_count o (notes_of h))
-teller_step p n w h o d i e = grind (arith, nat_tests)
-
-pub teller_at_or_below_the_head : TellerWorksAtOrBelowTheHead
-teller_at_or_below_the_head p n w [] l i = absurd (grind arith)
-teller_at_or_below_the_head p n w (e ∷ h) l i = teller_step p n w h e.op (due p e h l) (teller_at_or_below_the_head p n w h l.0) i
 
 -- The last commit of a session. -----------------------------------------------------------------------
 

@@ -1,4 +1,4 @@
--- What a follower knows of its session, and the watch functions' notes.
+-- What a follower knows of its session's commits.
 use Rattle.std.specs.Prelude.{◌≡◌, ℕ, ◌+◌, ◌<◌, ◌≤◌, true, List, Some}
 use Rattle.fk_print.specs.declared.entry.Entry.{Entry}
 use Rattle.fk_print.specs.declared.op.Op.TheVariants as op
@@ -26,7 +26,3 @@ CommitIsBeyondTheLast = (p : Plan) (actor t n c k : ℕ) (h : List Entry) → Is
 -- Where a follower is at work on the request that its session settles next, it knows the session's last commit.
 abbrev pub AtWorkKnowsTheLast : Type 0
 AtWorkKnowsTheLast = (p : Plan) (n : ℕ) (h : List Entry) (f : Follower) → IsHistory p h → place_of p n h ≡ Following f → progress f.stage ≡ Works → settled_of f.session h + 1 ≡ f.k → f.last ≡ last_of_session f.session h
-
--- A watch function was started for a note that is at most one beyond the removed ones.
-abbrev pub TellerWorksAtOrBelowTheHead : Type 0
-TellerWorksAtOrBelowTheHead = (p : Plan) (n w : ℕ) (h : List Entry) → IsHistory p h → task_of n h ≡ Some (Notifies w) → (1 ≤ w) × (w ≤ removed_by notifies h + 1) × (w ≤ notes_of h)

@@ -1,6 +1,7 @@
 pub mod Closing
 pub mod Due
 pub mod Functions
+pub mod Growing
 pub mod Knowing
 pub mod LeaderLane
 pub mod Locking

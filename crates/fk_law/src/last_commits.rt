@@ -1,4 +1,4 @@
-ghost use Rattle.fk_law.specs.Knowing.{LastIsCommitted, LastIsTheGreatest, CommitIsBeyondTheLast, AtWorkKnowsTheLast, TellerWorksAtOrBelowTheHead};
+ghost use Rattle.fk_law.specs.Knowing.{LastIsCommitted, LastIsTheGreatest, CommitIsBeyondTheLast, AtWorkKnowsTheLast};
 
 /// A law: the last commit of a session is a committed push.
 pub fn last_is_committed()
@@ -19,9 +19,4 @@ pub fn commit_is_beyond_the_last()
 /// session's last commit.
 pub fn at_work_knows_the_last()
     ensures { AtWorkKnowsTheLast }
-{}
-
-/// A law: a watch function was started for a note that is at most one beyond the removed ones.
-pub fn teller_works_at_or_below_the_head()
-    ensures { TellerWorksAtOrBelowTheHead }
 {}
