@@ -7,6 +7,7 @@ pub mod Leading
 pub mod Living
 pub mod Locking
 pub mod Losing
+pub mod Losses
 pub mod Moving
 pub mod Numbers
 pub mod Outcomes

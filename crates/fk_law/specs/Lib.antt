@@ -6,6 +6,7 @@ pub mod Knowing
 pub mod LeaderLane
 pub mod Locking
 pub mod Losing
+pub mod Losses
 pub mod Progress
 pub mod Pushes
 pub mod Requests
