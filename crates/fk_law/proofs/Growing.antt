@@ -1,11 +1,11 @@
 -- What a longer history keeps.
 use Rattle.std.specs.Prelude.{◌||◌}
-use Rattle.std.proofs.Common.{◌≡◌, ℕ, ◌+◌, ◌≤◌, ◌++◌, Bool, true, false, cond, List, [], ◌∷◌, refl, arith, Option, Some, None}
+use Rattle.std.proofs.Common.{◌≡◌, ℕ, ◌≤◌, ◌++◌, Bool, true, List, [], ◌∷◌, arith, Option}
 use Rattle.std.proofs.lemmas.Bool.Decides.{nat_tests}
 use Rattle.fk_print.specs.declared.entry.Entry.{Entry}
 use Rattle.fk_print.specs.declared.op.Op.{Op}
 use Rattle.fk_spec.specs.Start.{Origin, clock_of, clock_after, starts_of, count_start, started_in, pushes_of, count_push, pushed_in, sends_of, sent_in, count_sent}
-use Rattle.fk_spec.specs.Settling.{is_committed, commits, settled_of, settled_in, count_settling, done_of, done_in, swept_of, swept_in, mark_of, mark_in}
+use Rattle.fk_spec.specs.Settling.{is_committed, commits, settled_of, settled_in, done_of, done_in, swept_of, swept_in, mark_of, mark_in}
 use Rattle.fk_spec.specs.Lanes.{follows_session, leads, notifies, removed_by, notes_of, note_count}
 use Rattle.fk_law.specs.LeaderLane.{is_published, publishes}
 use Rattle.fk_law.specs.Growing.{AreAtMost, NumbersNeverFall, CommittedStays, PublishedStays}

@@ -7,9 +7,8 @@ use Rattle.fk_print.specs.declared.entry.Entry.{Entry}
 use Rattle.fk_print.specs.declared.op.Op.{Op}
 use Rattle.fk_print.specs.declared.op.Op.TheVariants as op
 use Rattle.fk_spec.specs.Plan.{Plan}
-use Rattle.fk_spec.specs.Start.{Notifies, is_session, task_of, task_here, started_in, or_else}
+use Rattle.fk_spec.specs.Start.{is_session}
 use Rattle.fk_spec.specs.Settling.{is_committed, commits, settled_in, settled_of, count_settling, session_of_push, last_of_session, last_for}
-use Rattle.fk_spec.specs.Lanes.{notifies, removed_by, removed_in, notes_of, note_count}
 use Rattle.fk_spec.specs.Follower.{Follower}
 use Rattle.fk_spec.specs.Function.{Following, place_of, actor}
 use Rattle.fk_spec.specs.Next.{IsHistory}

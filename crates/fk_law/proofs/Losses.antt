@@ -1,6 +1,6 @@
 -- A request whose lock passed on has the lines that show it.
 use Rattle.std.specs.Prelude.{◌==◌, ◌||◌, ◌&&◌, nat_lt}
-use Rattle.std.proofs.Common.{◌≡◌, ◌≢◌, ℕ, ◌+◌, ◌<◌, ◌≤◌, Bool, true, false, cond, List, [], ◌∷◌, ◌++◌, refl, sym, ◌∙◌, ap, subst, arith, Option, Some, None}
+use Rattle.std.proofs.Common.{◌≡◌, ◌≢◌, ℕ, ◌+◌, ◌<◌, Bool, true, false, cond, List, [], ◌∷◌, refl, sym, ◌∙◌, ap, subst, arith, Option, Some, None}
 use Rattle.std.proofs.lemmas.Bool.{false≢true}
 use Rattle.std.proofs.lemmas.Bool.Decides.{nat_tests}
 use Rattle.fk_base.specs.Path.{PathNames, same_path}
@@ -10,16 +10,17 @@ use Rattle.fk_print.specs.declared.entry.Entry.{Entry}
 use Rattle.fk_print.specs.declared.op.Op.{Op}
 use Rattle.fk_print.specs.declared.op.Op.TheVariants as op
 use Rattle.fk_spec.specs.Plan.{Plan}
-use Rattle.fk_spec.specs.Start.{Task, Follows, clock_of, task_of}
+use Rattle.fk_spec.specs.Start.{Task, Follows, clock_of, task_of, session_followed}
 use Rattle.fk_spec.specs.Locks.{Grant, Loss, last_grant, grant_in, granted, granted_in, own_moment, own_moment_in, loss_of, loss_in}
+use Rattle.fk_spec.specs.Settling.{Settling, Outcome, Passed, settling, settled_in, settled_of, outcome_of, outcome_here}
 use Rattle.fk_spec.specs.Refusals.{grants, was_granted, granted_later, misses, has_missed, has_lost, settles_lost}
 use Rattle.fk_spec.specs.Next.{IsHistory}
-use Rattle.fk_law.specs.Losses.{IsShownLost, LossHasItsLines}
+use Rattle.fk_law.specs.Losses.{IsShownLost, LossHasItsLines, IsLostFor, LostHasItsLines}
 use Rattle.fk_law.specs.Due.{IsDue}
 use Rattle.fk_law.proofs.Due.{due}
-use Rattle.fk_law.proofs.Starting.{task_stays}
+use Rattle.fk_law.proofs.Starting.{task_stays, follower_task}
 use Rattle.fk_law.proofs.Passing.{IsLateFind, loss_commit, loss_refusal, no_loss, task_or_none, none_lost, loss_is_after_expiry}
-use Rattle.fk_law.proofs.Losing.{has_last, same_sym, has_more}
+use Rattle.fk_law.proofs.Losing.{has_last, same_sym}
 
 or_right : (a b : Bool) → b ≡ true → (a || b) ≡ true
 or_right a b e = grind arith
@@ -55,13 +56,17 @@ later_lock n m path q e h b i a = by_path (same_path q path) refl
   where
     mine : m ≢ n → has_path path (granted n h) ≡ true
     mine f = grind (arith, nat_tests)
+
     before : same_path q path ≡ false → has_path path (granted n h) ≡ true
     before f = grind (arith, nat_tests, has_last path q (granted n h), same_sym path q)
+
     own_stays : (b : Bool) (x y : ℕ) → cond (b && false) x y ≡ y
     own_stays true x y = refl
     own_stays false x y = refl
+
     now : same_path q path ≡ true → m ≢ n → granted_later n path (cond ((m == n) && true) (clock_of h) (own_moment n path h)) m (clock_of h) (e ∷ h) ≡ true
     now s f = let w = was_own n path h (mine f) in rw b (grind (arith, nat_tests))
+
     by_path : (c : Bool) → same_path q path ≡ c → IsLater n path (cond ((m == n) && c) (clock_of h) (own_moment n path h)) (e ∷ h) (cond c (Some (record { holder = m; moment = clock_of h })) (last_grant path h))
     by_path true s = λ f. now s f
     by_path false s = subst (λ z. IsLater n path z (e ∷ h) (last_grant path h)) (sym (own_stays (m == n) (clock_of h) (own_moment n path h))) (later_grow n path (own_moment n path h) e h (last_grant path h) (i (before s)))
@@ -126,3 +131,90 @@ less_so a b l = grind (arith, nat_tests)
 
 pub loss_has_its_lines : LossHasItsLines
 loss_has_its_lines p n c k x h l t e = record { passed = lines p n c k x h l t e; beyond = less_so _ _ (loss_is_after_expiry p n c k x h l t e).1; missed = missed n x h e }
+
+-- Requests that were settled as lost. -----------------------------------------------------------------
+
+lost_grows : (p : Plan) (c k : ℕ) (x : Loss) (e : Entry) (h : List Entry) → IsHistory p (e ∷ h) → IsLostFor p c k x h → IsLostFor p c k x (e ∷ h)
+lost_grows p c k x e h l i = record {
+  function = i.function;
+  task = task_stays p i.function e h (Follows c k) l i.task;
+  shown = record {
+    passed = loss_grows i.function x e h i.shown.passed;
+    beyond = i.shown.beyond;
+    missed = or_right (misses i.function x.path x.found x.moment e.op) (has_missed i.function x.path x.found x.moment h) i.shown.missed;
+  };
+  settled = or_right (settles_lost i.function e.op) (has_lost i.function h) i.settled;
+}
+
+-- a request is settled as lost by a follower of it
+record IsLostNow (c : ℕ) (w : Option Loss) (h : List Entry) (o : Op) : Type 0 where
+  pub function : ℕ
+  pub op_is : o ≡ op.LostOk function
+  pub loss : loss_of function h ≡ w
+  pub session : session_followed (task_of function h) ≡ Some c
+
+followed : (c : ℕ) (o : Option ℕ) (w : Option Loss) (v : Option Loss) → settling o (Passed v) ≡ Some (record { session = c; outcome = Passed w }) → (v ≡ w) × (o ≡ Some c)
+followed c None w v e = absurd (grind arith)
+followed c (Some d) w v e = grind arith
+
+lost_now : (c : ℕ) (w : Option Loss) (h : List Entry) (o : Op) → settled_in h o ≡ Some (record { session = c; outcome = Passed w }) → IsLostNow c w h o
+lost_now c w h (op.LostOk n) e = let g = followed c (session_followed (task_of n h)) w (loss_of n h) e in record { function = n; op_is = refl; loss = g.0; session = g.1 }
+lost_now c w h (op.CommitOk n t) e = absurd (grind arith)
+lost_now c w h (op.RefuseOk n code place at) e = absurd (grind arith)
+lost_now c w h o e = absurd (grind arith)
+
+lost_new : (p : Plan) (c k : ℕ) (x : Loss) (e : Entry) (h : List Entry) → IsHistory p (e ∷ h) → IsLostNow c (Some x) h e.op → settled_of c h + 1 ≡ k → IsLostFor p c k x (e ∷ h)
+lost_new p c k x e h l i s = record {
+  function = i.function;
+  task = task_stays p i.function e h (Follows c k) l u;
+  shown = record {
+    passed = loss_grows i.function x e h v.passed;
+    beyond = v.beyond;
+    missed = or_right (misses i.function x.path x.found x.moment e.op) (has_missed i.function x.path x.found x.moment h) v.missed;
+  };
+  settled = settled_now e.op i.op_is;
+}
+  where
+    d : IsDue p h (op.LostOk i.function)
+    d = subst (IsDue p h) i.op_is (due p e h l)
+
+    t : task_of i.function h ≡ Some (Follows d.0.session d.0.k)
+    t = follower_task p i.function h d.0 l.0 d.1
+
+    some_same : (a b : ℕ) → Some a ≡ Some b → a ≡ b
+    some_same a b e = cc
+
+    f : d.0.session ≡ c
+    f = some_same d.0.session c (sym (ap session_followed t) ∙ i.session)
+
+    n : d.0.k ≡ k
+    n = sym d.3 ∙ ap (λ z. settled_of z h + 1) f ∙ s
+
+    u : task_of i.function h ≡ Some (Follows c k)
+    u = subst (λ z. task_of i.function h ≡ Some (Follows c z)) n (subst (λ z. task_of i.function h ≡ Some (Follows z d.0.k)) f t)
+
+    v : IsShownLost p i.function x h
+    v = loss_has_its_lines p i.function c k x h l.0 u i.loss
+
+    settled_now : (o : Op) → o ≡ op.LostOk i.function → (settles_lost i.function o || has_lost i.function h) ≡ true
+    settled_now o b = rw b (grind (arith, nat_tests))
+
+here_is : (c k s : ℕ) (w : Outcome) (z : Settling) (x : Option Outcome) → outcome_here c k s (Some z) x ≡ Some w → ((z.session == c) && (s + 1 == k)) ≡ true → (z ≡ record { session = c; outcome = w }) × (s + 1 ≡ k)
+here_is c k s w z x e f = grind (arith, nat_tests)
+
+here_not : (c k s : ℕ) (w : Outcome) (z : Settling) (x : Option Outcome) → outcome_here c k s (Some z) x ≡ Some w → ((z.session == c) && (s + 1 == k)) ≡ false → x ≡ Some w
+here_not c k s w z x e f = grind (arith, nat_tests)
+
+lost_step : (p : Plan) (c k : ℕ) (x : Loss) (e : Entry) (h : List Entry) (o : Option Settling) → settled_in h e.op ≡ o → IsHistory p (e ∷ h) → (outcome_of c k h ≡ Some (Passed (Some x)) → IsLostFor p c k x h) → outcome_here c k (settled_of c h) o (outcome_of c k h) ≡ Some (Passed (Some x)) → IsLostFor p c k x (e ∷ h)
+lost_step p c k x e h None b l i a = lost_grows p c k x e h l (i a)
+lost_step p c k x e h (Some z) b l i a = by_test ((z.session == c) && (settled_of c h + 1 == k)) refl
+  where
+    by_test : (d : Bool) → ((z.session == c) && (settled_of c h + 1 == k)) ≡ d → IsLostFor p c k x (e ∷ h)
+    by_test false f = lost_grows p c k x e h l (i (here_not c k (settled_of c h) (Passed (Some x)) z (outcome_of c k h) a f))
+    by_test true f =
+        let g = here_is c k (settled_of c h) (Passed (Some x)) z (outcome_of c k h) a f in
+        lost_new p c k x e h l (lost_now c (Some x) h e.op (b ∙ ap Some g.0)) g.1
+
+pub lost_has_its_lines : LostHasItsLines
+lost_has_its_lines p c k x [] l a = absurd (grind arith)
+lost_has_its_lines p c k x (e ∷ h) l a = lost_step p c k x e h (settled_in h e.op) refl l (lost_has_its_lines p c k x h l.0) a

@@ -1,5 +1,5 @@
 -- What a longer history keeps.
-use Rattle.std.specs.Prelude.{◌≡◌, ℕ, ◌≤◌, ◌++◌, Bool, true, false, List, [], ◌∷◌}
+use Rattle.std.specs.Prelude.{◌≡◌, ℕ, ◌≤◌, ◌++◌, true, List}
 use Rattle.fk_print.specs.declared.entry.Entry.{Entry}
 use Rattle.fk_spec.specs.Start.{clock_of, starts_of, pushes_of, sends_of}
 use Rattle.fk_spec.specs.Settling.{is_committed, settled_of, done_of, swept_of, mark_of}
