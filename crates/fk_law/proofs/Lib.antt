@@ -1,6 +1,7 @@
 pub mod Closing
 pub mod Committing
 pub mod Due
+pub mod Finding
 pub mod Growing
 pub mod Knowing
 pub mod Leading

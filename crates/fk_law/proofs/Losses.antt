@@ -147,7 +147,7 @@ lost_grows p c k x e h l i = record {
 }
 
 -- a request is settled as lost by a follower of it
-record IsLostNow (c : ℕ) (w : Option Loss) (h : List Entry) (o : Op) : Type 0 where
+pub record IsLostNow (c : ℕ) (w : Option Loss) (h : List Entry) (o : Op) : Type 0 where
   pub function : ℕ
   pub op_is : o ≡ op.LostOk function
   pub loss : loss_of function h ≡ w
@@ -157,7 +157,7 @@ followed : (c : ℕ) (o : Option ℕ) (w : Option Loss) (v : Option Loss) → se
 followed c None w v e = absurd (grind arith)
 followed c (Some d) w v e = grind arith
 
-lost_now : (c : ℕ) (w : Option Loss) (h : List Entry) (o : Op) → settled_in h o ≡ Some (record { session = c; outcome = Passed w }) → IsLostNow c w h o
+pub lost_now : (c : ℕ) (w : Option Loss) (h : List Entry) (o : Op) → settled_in h o ≡ Some (record { session = c; outcome = Passed w }) → IsLostNow c w h o
 lost_now c w h (op.LostOk n) e = let g = followed c (session_followed (task_of n h)) w (loss_of n h) e in record { function = n; op_is = refl; loss = g.0; session = g.1 }
 lost_now c w h (op.CommitOk n t) e = absurd (grind arith)
 lost_now c w h (op.RefuseOk n code place at) e = absurd (grind arith)
@@ -199,10 +199,10 @@ lost_new p c k x e h l i s = record {
     settled_now : (o : Op) → o ≡ op.LostOk i.function → (settles_lost i.function o || has_lost i.function h) ≡ true
     settled_now o b = rw b (grind (arith, nat_tests))
 
-here_is : (c k s : ℕ) (w : Outcome) (z : Settling) (x : Option Outcome) → outcome_here c k s (Some z) x ≡ Some w → ((z.session == c) && (s + 1 == k)) ≡ true → (z ≡ record { session = c; outcome = w }) × (s + 1 ≡ k)
+pub here_is : (c k s : ℕ) (w : Outcome) (z : Settling) (x : Option Outcome) → outcome_here c k s (Some z) x ≡ Some w → ((z.session == c) && (s + 1 == k)) ≡ true → (z ≡ record { session = c; outcome = w }) × (s + 1 ≡ k)
 here_is c k s w z x e f = grind (arith, nat_tests)
 
-here_not : (c k s : ℕ) (w : Outcome) (z : Settling) (x : Option Outcome) → outcome_here c k s (Some z) x ≡ Some w → ((z.session == c) && (s + 1 == k)) ≡ false → x ≡ Some w
+pub here_not : (c k s : ℕ) (w : Outcome) (z : Settling) (x : Option Outcome) → outcome_here c k s (Some z) x ≡ Some w → ((z.session == c) && (s + 1 == k)) ≡ false → x ≡ Some w
 here_not c k s w z x e f = grind (arith, nat_tests)
 
 lost_step : (p : Plan) (c k : ℕ) (x : Loss) (e : Entry) (h : List Entry) (o : Option Settling) → settled_in h e.op ≡ o → IsHistory p (e ∷ h) → (outcome_of c k h ≡ Some (Passed (Some x)) → IsLostFor p c k x h) → outcome_here c k (settled_of c h) o (outcome_of c k h) ≡ Some (Passed (Some x)) → IsLostFor p c k x (e ∷ h)

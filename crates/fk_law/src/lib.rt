@@ -62,4 +62,4 @@ pub use settlings::{
     answered_is_settled, at_work_is_unpushed, commits_once, committed_is_settled,
     message_is_reached, settled_is_removed_or_one_more, settled_were_sent, settles_the_next,
 };
-pub use shown_losses::{loss_has_its_lines, lost_has_its_lines};
+pub use shown_losses::{loser_has_found, loss_has_its_lines, lost_has_a_loss, lost_has_its_lines};
