@@ -1,7 +1,5 @@
 -- Closed sessions.
-use Rattle.std.specs.Prelude.{◌==◌, ◌||◌, ◌&&◌}
-use Rattle.std.proofs.Common.{◌≡◌, ◌≢◌, ℕ, ◌+◌, ◌<◌, ◌≤◌, Bool, true, false, cond, List, [], ◌∷◌, refl, sym, ◌∙◌, ap, subst, arith, Option, Some, None}
-use Rattle.std.proofs.lemmas.Bool.{false≢true}
+use Rattle.std.proofs.Common.{◌≡◌, ◌≢◌, ℕ, ◌+◌, ◌≤◌, Bool, false, List, [], ◌∷◌, refl, sym, ◌∙◌, ap, subst, arith, Option, Some, None}
 use Rattle.std.proofs.lemmas.Bool.Decides.{nat_tests}
 use Rattle.fk_tree.specs.declared.applied.Applied.{Applied}
 use Rattle.fk_tree.specs.declared.request.Request.{Request}
@@ -9,11 +7,10 @@ use Rattle.fk_print.specs.declared.entry.Entry.{Entry}
 use Rattle.fk_print.specs.declared.op.Op.{Op}
 use Rattle.fk_print.specs.declared.op.Op.TheVariants as op
 use Rattle.fk_spec.specs.Plan.{Plan}
-use Rattle.fk_spec.specs.Start.{Task, Follows, Push, Pushed, pushed_of, pushed_by, pushed_for, pushed_request, request_of, clock_of, task_of, push_of, push_here, pushed_in, or_else}
-use Rattle.fk_spec.specs.Settling.{settled_in, settled_of, count_settling, session_of_push}
-use Rattle.fk_spec.specs.Stored.{view_after, with_filled, filled_after, committed_in, committed_of, stored_view}
+use Rattle.fk_spec.specs.Start.{Follows, Push, Pushed, pushed_of, pushed_by, pushed_for, pushed_request, request_of, clock_of, task_of, push_of, push_here, pushed_in, or_else}
+use Rattle.fk_spec.specs.Settling.{settled_in, settled_of, count_settling}
+use Rattle.fk_spec.specs.Stored.{view_after, with_filled, committed_in, committed_of, stored_view}
 use Rattle.fk_spec.specs.Follower.{Follower}
-use Rattle.fk_spec.specs.Follower as follower
 use Rattle.fk_spec.specs.Function.{Following, place_of, actor}
 use Rattle.fk_spec.specs.Next.{IsHistory}
 use Rattle.fk_law.specs.Due.{IsDue, IsPushOf}
@@ -24,7 +21,7 @@ use Rattle.fk_law.proofs.Moving.{OnFollower, follower_step}
 use Rattle.fk_law.proofs.Starting.{follower_task, task_stays}
 use Rattle.fk_law.proofs.Pushing.{push_bound}
 use Rattle.fk_law.proofs.Settled.{commit_of, session_of_its_push, task_at_most_next}
-use Rattle.fk_law.proofs.Committing.{its_push_is_one, counts_more, committed_now}
+use Rattle.fk_law.proofs.Committing.{its_push_is_one, counts_more}
 use Rattle.fk_law.proofs.Rising.{its_push_before}
 
 -- the request of a push is of its session
@@ -56,7 +53,7 @@ closed_keeps_op p c k h o l d b s = refl
 closed_keeps : (p : Plan) (c k : ℕ) (e : Entry) (h : List Entry) → IsHistory p (e ∷ h) → k ≤ settled_of c h + 1 → settled_of c (e ∷ h) + 1 ≡ k → (stored_view p (e ∷ h)).closed c ≡ (stored_view p h).closed c
 closed_keeps p c k e h l b s = closed_keeps_op p c k h e.op l.0 (due p e h l) b s
 
-settled_so : (p : Plan) (c k : ℕ) (e : Entry) (h : List Entry) → k ≤ settled_of c h + 1 → settled_of c (e ∷ h) + 1 ≡ k → settled_of c h + 1 ≡ k
+pub settled_so : (p : Plan) (c k : ℕ) (e : Entry) (h : List Entry) → k ≤ settled_of c h + 1 → settled_of c (e ∷ h) + 1 ≡ k → settled_of c h + 1 ≡ k
 settled_so p c k e h b s = let g : settled_of c h ≤ settled_of c (e ∷ h) = counts_more c (settled_in h e.op) (settled_of c h) (settled_of c h) (omega arith) in omega (arith, b, s, g)
 
 -- Followers at work. ----------------------------------------------------------------------------------

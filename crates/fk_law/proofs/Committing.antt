@@ -1,13 +1,13 @@
 -- A push commits once, and its request's outcome is that it was.
-use Rattle.std.specs.Prelude.{◌==◌, ◌||◌}
-use Rattle.std.proofs.Common.{◌≡◌, ◌≢◌, ℕ, ◌+◌, ◌<◌, ◌≤◌, ◌++◌, Bool, true, false, cond, List, [], ◌∷◌, refl, sym, ◌∙◌, ap, subst, arith, rules, Option, Some, None}
+use Rattle.std.specs.Prelude.{◌||◌}
+use Rattle.std.proofs.Common.{◌≡◌, ◌≢◌, ℕ, ◌+◌, ◌≤◌, Bool, true, false, List, [], ◌∷◌, refl, sym, ◌∙◌, subst, arith, Option, Some, None}
 use Rattle.std.proofs.lemmas.Bool.{false≢true}
 use Rattle.std.proofs.lemmas.Bool.Decides.{nat_tests}
 use Rattle.fk_print.specs.declared.entry.Entry.{Entry}
 use Rattle.fk_print.specs.declared.op.Op.{Op}
 use Rattle.fk_print.specs.declared.op.Op.TheVariants as op
 use Rattle.fk_spec.specs.Plan.{Plan}
-use Rattle.fk_spec.specs.Start.{Task, Follows, Push, clock_of, task_of, push_of, push_here, pushed_in, pushes_of, or_else, starts_of}
+use Rattle.fk_spec.specs.Start.{Follows, Push, clock_of, push_of, push_here, pushed_in, or_else, starts_of}
 use Rattle.fk_spec.specs.Locks.{is_push_of}
 use Rattle.fk_spec.specs.Settling.{Settling, Outcome, Committed, settling, settled_in, settled_of, count_settling, session_of_push, is_committed, commits, outcome_of, outcome_here}
 use Rattle.fk_spec.specs.Follower.{Follower}
@@ -16,11 +16,11 @@ use Rattle.fk_spec.specs.Next.{IsHistory}
 use Rattle.fk_law.specs.Due.{IsDue, IsPushOf}
 use Rattle.fk_law.specs.Settled.{IsCommittedPush, AtWorkIsUnpushed}
 use Rattle.fk_law.specs.Pushes.{OnePushForEachFunction}
-use Rattle.fk_law.specs.Progress.{Progress, Asks, Works, Expires, Commits, progress, progress_after}
+use Rattle.fk_law.specs.Progress.{Progress, Asks, Works, Expires, progress, progress_after}
 use Rattle.fk_law.proofs.Due.{due}
 use Rattle.fk_law.proofs.Moving.{OnFollower, follower_step}
 use Rattle.fk_law.proofs.Starting.{follower_task, task_stays, task_bound}
-use Rattle.fk_law.proofs.Pushing.{push_stays, push_bound, push_request}
+use Rattle.fk_law.proofs.Pushing.{push_stays, push_request}
 use Rattle.fk_law.proofs.Settled.{commit_of, session_of_its_push, task_at_most_next}
 
 pub its_push_stays : (p : Plan) (t n c k : ℕ) (e : Entry) (h : List Entry) → IsHistory p (e ∷ h) → IsPushOf t n c k h → IsPushOf t n c k (e ∷ h)
@@ -53,6 +53,7 @@ committed_step p t e h o b l i a = by_commit (commits t o) refl a
       settled = counts_more x.session (settled_in h e.op) (settled_of x.session h) x.k x.settled;
       outcome = outcome_stays x.session x.k h (settled_in h e.op) (outcome_of x.session x.k h) x.settled ∙ x.outcome;
     }
+
     new : (u : Op) → e.op ≡ u → IsDue p h u → commits t u ≡ true → IsCommittedPush t (e ∷ h)
     new (op.CommitOk n s) f d c =
         let g : s ≡ t = grind (arith, nat_tests) in
@@ -68,6 +69,7 @@ committed_step p t e h o b l i a = by_commit (commits t o) refl a
           outcome = rw f m.1;
         })
     new u f d c = absurd (grind arith)
+
     by_commit : (c : Bool) → commits t o ≡ c → (c || is_committed t h) ≡ true → IsCommittedPush t (e ∷ h)
     by_commit true f a = new e.op refl (due p e h l) (rw b f)
     by_commit false f a = old (i a)
@@ -128,7 +130,7 @@ fresh_step p t n e h l i =
     (λ f b a. fresh_grows (is_push_of n (push_of t (e ∷ h))) f.session f.k (settled_of f.session h) (progress f.stage) (settled_in h e.op) (fresh_stays t n f.k (settled_of f.session h) (progress f.stage) h e.op a (subst (OnFollower (FreshIn t n h)) b i)))
     (λ c k b x. fresh_start p t n c k (settled_of c (e ∷ h)) h e.op (due p e h l) b (pusher_starts p n t h l.0) x)
     (λ f b a. fresh_grows (is_push_of n (push_of t (e ∷ h))) f.session f.k (settled_of f.session h) (progress_after e.op (progress f.stage)) (settled_in h e.op)
-      (fresh_moves p t n h e.op f (due p e h l) b a (task_at_most_next p n f.session f.k h l.0 (follower_task p n h f l.0 b)) (subst (OnFollower (FreshIn t n h)) b i)))
+    (fresh_moves p t n h e.op f (due p e h l) b a (task_at_most_next p n f.session f.k h l.0 (follower_task p n h f l.0 b)) (subst (OnFollower (FreshIn t n h)) b i)))
 
 fresh : (p : Plan) (t n : ℕ) (h : List Entry) → IsHistory p h → OnFollower (FreshIn t n h) (place_of p n h)
 fresh p t n [] l = tt
@@ -142,10 +144,10 @@ pub at_work_unpushed : (p : Plan) (t n : ℕ) (h : List Entry) (f : Follower) �
 at_work_unpushed p t n h f l b w = subst (λ q. FreshIn t n h f.session f.k q) w (subst (OnFollower (FreshIn t n h)) b (fresh p t n h l))
 
 one_push_step : (p : Plan) (t s n : ℕ) (h : List Entry) (o : Op) → IsDue p h o
-  → (is_push_of n (push_of t h) ≡ true → is_push_of n (push_of s h) ≡ true → t ≡ s)
-  → ((f : Follower) → place_of p n h ≡ Following f → progress f.stage ≡ Works → is_push_of n (push_of t h) ≡ false)
-  → ((f : Follower) → place_of p n h ≡ Following f → progress f.stage ≡ Works → is_push_of n (push_of s h) ≡ false)
-  → is_push_of n (or_else (push_here t (pushed_in (clock_of h) o)) (push_of t h)) ≡ true → is_push_of n (or_else (push_here s (pushed_in (clock_of h) o)) (push_of s h)) ≡ true → t ≡ s
+    → (is_push_of n (push_of t h) ≡ true → is_push_of n (push_of s h) ≡ true → t ≡ s)
+    → ((f : Follower) → place_of p n h ≡ Following f → progress f.stage ≡ Works → is_push_of n (push_of t h) ≡ false)
+    → ((f : Follower) → place_of p n h ≡ Following f → progress f.stage ≡ Works → is_push_of n (push_of s h) ≡ false)
+    → is_push_of n (or_else (push_here t (pushed_in (clock_of h) o)) (push_of t h)) ≡ true → is_push_of n (or_else (push_here s (pushed_in (clock_of h) o)) (push_of s h)) ≡ true → t ≡ s
 one_push_step p t s n h (op.Push m u) d i a b x y = grind (arith, nat_tests, a d.0, b d.0)
 one_push_step p t s n h o d i a b x y = grind (arith, nat_tests)
 

@@ -1,5 +1,5 @@
 -- What each operation line says of the entries before it: the only place where the rule of the next entry is opened.
-use Rattle.std.proofs.Common.{◌≡◌, ◌≢◌, ℕ, ◌+◌, ◌<◌, ◌≤◌, Bool, true, false, cond, List, [], ◌∷◌, refl, sym, ◌∙◌, ap, subst, arith, Option, Some, None}
+use Rattle.std.proofs.Common.{◌≡◌, ℕ, ◌+◌, Bool, true, false, List, [], ◌∷◌, refl, sym, ◌∙◌, ap, subst, arith, Option, Some, None}
 use Rattle.std.specs.Prelude.{◌==◌, nat_lt, nat_le}
 use Rattle.std.proofs.lemmas.Bool.{cond_both, eqb-true, eqb-false}
 use Rattle.std.proofs.lemmas.Bool.Decides.{nat_tests}
@@ -14,10 +14,11 @@ use Rattle.fk_print.specs.declared.op.Op.{Op}
 use Rattle.fk_print.specs.declared.op.Op.TheVariants as op
 use Rattle.fk_spec.specs.Plan.{Plan, Ask, Want, Unfit, Writes, Reads, asked}
 use Rattle.fk_spec.specs.Start.{Task, Follows, Leads, Notifies, Probes, Push, clock_of, starts_of, task_of, push_of, sends_of, written, request_in}
-use Rattle.fk_spec.specs.Locks.{Passed, granted, first_passed}
-use Rattle.fk_spec.specs.Settling.{settled_of}
+use Rattle.fk_spec.specs.Locks as locks
+use Rattle.fk_spec.specs.Locks.{granted, first_passed}
+use Rattle.fk_spec.specs.Settling.{Committed, Refused, Passed, settled_of}
 use Rattle.fk_spec.specs.Stored.{stored_view}
-use Rattle.fk_spec.specs.Lanes.{session_head, leader_head, watch_head, Message, inbox_of}
+use Rattle.fk_spec.specs.Lanes.{session_head, leader_head, watch_head, Message, Done, Evicted, Kept, Watch, Ping, inbox_of}
 use Rattle.fk_spec.specs.Follower.{Follower, follower_op, session_op, unsettled_op, settled_op, lock_op, busy_op, commit_op, commit_locked, refuse_op, refuse_locked, expire_op, lost_op, ack_op, is_number}
 use Rattle.fk_spec.specs.Follower as follower
 use Rattle.fk_spec.specs.Leader.{leader_op, of_push, for_push, for_task}
@@ -28,7 +29,7 @@ use Rattle.fk_spec.specs.Heartbeat.{beat_op, probe_op, open_op, unanswered_op}
 use Rattle.fk_spec.specs.Pings.{Noted, noted_of, pong_of}
 use Rattle.fk_spec.specs.Heartbeat as heartbeat
 use Rattle.fk_spec.specs.Function.{Place, Absent, Following, Leading, Telling, Beating, place_of, function_op, fault_op}
-use Rattle.fk_spec.specs.Client.{Client, Sent, Reading, client_op, client_of, failed_op, pong_or, take_or, look_or, look_sent_or, look_op, held_op, watch_or, register_asked, next_command_op, begin_op, local_if, may_begin}
+use Rattle.fk_spec.specs.Client.{Client, Sent, Reading, client_op, client_of, failed_op, pong_or, take_or, take_op, look_or, look_sent_or, look_op, held_op, watch_or, register_asked, next_command_op, begin_op, local_if, may_begin}
 use Rattle.fk_spec.specs.Next.{next_op, follow_op, lead_op, tell_op, crash_op}
 use Rattle.fk_law.specs.Due.{IsDue, IsFollower, Commits, IsPushOf, EveryEntryIsDue}
 
@@ -46,7 +47,7 @@ commit_due p h n t m c k l =
     (λ s. locked (first_passed m h (in_path_order (granted m h))) refl (eqb-true _ _ s))
     (λ s. (m, c, k, l, eqb-false _ _ s))
   where
-    locked : (o : Option Passed) → first_passed m h (in_path_order (granted m h)) ≡ o → settled_of c h + 1 ≡ k → IsDue p h (commit_locked n t o)
+    locked : (o : Option locks.Passed) → first_passed m h (in_path_order (granted m h)) ≡ o → settled_of c h + 1 ≡ k → IsDue p h (commit_locked n t o)
     locked None e s = (m, c, k, l, s, e)
     locked (Some x) e s = (m, c, k, l, s, e)
 
@@ -90,6 +91,7 @@ of_push_due p h t g d = pushed (push_of t h) refl
     tasked x (Some (Leads s)) e f = tt
     tasked x (Some (Notifies w)) e f = tt
     tasked x (Some (Probes c)) e f = tt
+
     pushed : (o : Option Push) → push_of t h ≡ o → IsDue p h (for_push h o g)
     pushed None e = tt
     pushed (Some x) e = tasked x (task_of x.function h) e refl
@@ -175,9 +177,18 @@ next_command_due : (p : Plan) (h : List Entry) (c : ℕ) (x : Client) (a : Optio
 next_command_due p h c x None e = tt
 next_command_due p h c x (Some a) e = cond_both (may_begin p c a x.sent) (begin_op p c (x.begun + 1) h x.closed a.want) op.Idle (IsDue p h) (λ _. begin_due p h c (x.begun + 1) x.closed a a.want e refl) (λ _. tt)
 
-take_due : (p : Plan) (h : List Entry) (c : ℕ) (ms : List Message) (o : Op) → IsDue p h o → IsDue p h (take_or c ms o)
-take_due p h c [] o d = d
-take_due p h c (m ∷ ms) o d = grind arith
+message_due : (p : Plan) (h : List Entry) (c : ℕ) (m : Message) (ms : List Message) → inbox_of p c h ≡ m ∷ ms → IsDue p h (take_op c m)
+message_due p h c (Done k t) ms e = (ms, e)
+message_due p h c (Evicted k t) ms e = (ms, e)
+message_due p h c (Kept k (Passed loss)) ms e = (loss, ms, e)
+message_due p h c (Kept k (Committed t)) ms e = (Committed t, ms, e)
+message_due p h c (Kept k (Refused cd place at)) ms e = (Refused cd place at, ms, e)
+message_due p h c (Watch watch) ms e = (ms, e)
+message_due p h c (Ping ping) ms e = (ms, e)
+
+take_due : (p : Plan) (h : List Entry) (c : ℕ) (ms : List Message) (o : Op) → inbox_of p c h ≡ ms → IsDue p h o → IsDue p h (take_or c ms o)
+take_due p h c [] o e d = d
+take_due p h c (m ∷ ms) o e d = message_due p h c m ms e
 
 pong_due : (p : Plan) (h : List Entry) (c : ℕ) (pings : List ℕ) (o : Op) → IsDue p h o → IsDue p h (pong_or c pings o)
 pong_due p h c [] o d = d
@@ -186,7 +197,7 @@ pong_due p h c (n ∷ ns) o d = tt
 client_due : (p : Plan) (h : List Entry) (c : ℕ) → IsDue p h (client_op p c h)
 client_due p h c =
     let x = client_of p c h in
-    pong_due p h c x.owed _ (take_due p h c (inbox_of p c h) _ (look_or_due p h c x x.reading _ (watch_due p h c x x.reading _ (next_command_due p h c x (asked p c (x.begun + 1)) refl))))
+    pong_due p h c x.owed _ (take_due p h c (inbox_of p c h) _ refl (look_or_due p h c x x.reading _ (watch_due p h c x x.reading _ (next_command_due p h c x (asked p c (x.begun + 1)) refl))))
 
 failed_due : (p : Plan) (h : List Entry) (o : Op) → IsDue p h o → IsDue p h (failed_op o)
 failed_due p h o d = grind arith

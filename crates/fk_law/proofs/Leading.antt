@@ -1,16 +1,16 @@
 -- The leader lane: its pushes are finished one after another.
-use Rattle.std.specs.Prelude.{◌==◌, ◌||◌, ◌&&◌, not, max, nat_le}
-use Rattle.std.proofs.Common.{◌≡◌, ◌≢◌, ℕ, ◌+◌, ◌<◌, ◌≤◌, ◌++◌, ◌⊎◌, inl, inr, Bool, true, false, cond, List, [], ◌∷◌, refl, sym, ◌∙◌, ap, subst, arith, rules, Option, Some, None}
-use Rattle.std.proofs.lemmas.Bool.{cond_both, false≢true}
+use Rattle.std.specs.Prelude.{◌==◌, ◌||◌, max, nat_le}
+use Rattle.std.proofs.Common.{◌≡◌, ℕ, ◌+◌, ◌<◌, ◌≤◌, ◌⊎◌, inl, inr, Bool, true, false, List, [], ◌∷◌, refl, sym, ◌∙◌, subst, arith, Some}
+use Rattle.std.proofs.lemmas.Bool.{false≢true}
 use Rattle.std.proofs.lemmas.Bool.Decides.{nat_tests}
 use Rattle.fk_base.specs.Path.{PathNames}
 use Rattle.fk_print.specs.declared.entry.Entry.{Entry}
 use Rattle.fk_print.specs.declared.op.Op.{Op}
 use Rattle.fk_print.specs.declared.op.Op.TheVariants as op
 use Rattle.fk_spec.specs.Plan.{Plan}
-use Rattle.fk_spec.specs.Start.{Task, Leads, task_of, pushes_of, count_push, pushed_in, or_else, started_in, task_here}
+use Rattle.fk_spec.specs.Start.{Leads, task_of, pushes_of, count_push, pushed_in, or_else, started_in, task_here}
 use Rattle.fk_spec.specs.Settling.{is_committed, commits, is_finished, finishes, is_pending, done_of, done_in, swept_of, swept_in, mark_of, mark_in}
-use Rattle.fk_spec.specs.Lanes.{leads, removed_by, removed_in, leader_head}
+use Rattle.fk_spec.specs.Lanes.{leads, removed_by, removed_in}
 use Rattle.fk_spec.specs.Leader.{next_leader, to_put, to_notify, after_put}
 use Rattle.fk_spec.specs.Leader as leader
 use Rattle.fk_spec.specs.Watches.{Firing}
@@ -112,7 +112,7 @@ stands_step p n e h l i =
     (λ t s b _. let g = grows t h e.op in stands_grow (IsDead t h) (IsDead t (e ∷ h)) (is_committed t h) (is_committed t (e ∷ h)) (done_of h) (done_of (e ∷ h)) (swept_of h) (swept_of (e ∷ h)) (mark_of h) (mark_of (e ∷ h)) t s (dead_stays p t e h l) (or_right (commits t e.op) (is_committed t h)) g.0 g.1 g.2 (subst (OnLeader (Stands h)) b i))
     (λ t _. tt)
     (λ t s b a. stands_grow (IsDead t h) (IsDead t (e ∷ h)) (is_committed t (e ∷ h)) (is_committed t (e ∷ h)) (done_of (e ∷ h)) (done_of (e ∷ h)) (swept_of (e ∷ h)) (swept_of (e ∷ h)) (mark_of (e ∷ h)) (mark_of (e ∷ h)) t (next_leader p h t e.op s) (dead_stays p t e h l) (λ c. c) (omega arith) (omega arith) (omega arith)
-      (stands_moves p n t s h e.op l.0 (due p e h l) b a (subst (OnLeader (Stands h)) b i)))
+    (stands_moves p n t s h e.op l.0 (due p e h l) b a (subst (OnLeader (Stands h)) b i)))
 
 ack_done : (n : ℕ) (h : List Entry) (x : Place) → IsFor (task_of n h) x → Acks h x → OnLeader (Stands h) x → removed_by leads h ≤ done_of h → removed_in leads h (op.AckOk n) (removed_by leads h) ≤ done_of h
 ack_done n h x f a i b = grind (arith, nat_tests)
@@ -149,13 +149,17 @@ commit_beyond p n t h l d i = (beyond_done, beyond_swept, (let m = i.mark in let
   where
     fresh : is_committed t h ≡ false
     fresh = commits_once p n t h l d
+
     low : 1 ≤ t
     low = let w = commit_of p n t d.0 d.1 d.2 h l d.3 in (push_bound p t h w.push l w.pushed).1
+
     not_finished : IsDead t h ⊎ ((is_committed t h ≡ true) × (t ≤ mark_of h)) → ⊥
     not_finished (inl x) = let f = dead_no_commit p t h (op.CommitOk n t) l d x in grind (arith, nat_tests)
     not_finished (inr x) = false≢true (sym fresh ∙ x.0)
+
     beyond_done : done_of h < t
     beyond_done = less_or_not _ _ (λ b. not_finished (i.finished t low b))
+
     beyond_swept : swept_of h < t
     beyond_swept = less_or_not _ _ (λ b. let s = i.swept in let c = i.between in let a = beyond_done in let e : swept_of h ≡ t = omega (arith, b, s, c.0, a) in let g = i.committed (omega (arith, low, b)) in false≢true (sym fresh ∙ subst (λ x. is_committed x h ≡ true) e g))
 
@@ -186,11 +190,14 @@ published_step p u h (op.PublishOk n t) l d i a b = by_old (nat_le u (mark_of h)
   where
     r : Stands h t leader.Publish × (1 ≤ t) × (t ≤ removed_by leads h + 1)
     r = leading_at p n t leader.Publish h l i d.0
+
     not_finished : mark_of h < u → IsDead u h ⊎ ((is_committed u h ≡ true) × (u ≤ mark_of h)) → ⊥
     not_finished m (inl x) = false≢true (sym x.uncommitted ∙ a)
     not_finished m (inr x) = omega (arith, m, x.1)
+
     same : mark_of h < u → u ≤ t → u ≡ t
     same m c = let g = less_or_not (done_of h) u (λ x. not_finished m (i.finished u (omega (arith, m)) x)) in let y = i.between in let z = r.2 in omega (arith, g, y.0, z, c)
+
     by_old : (c : Bool) → nat_le u (mark_of h) ≡ c → ((t == u) || is_published u h) ≡ true
     by_old true e = or_right (t == u) (is_published u h) (i.published u a (grind (arith, nat_tests)))
     by_old false e = let f : u ≡ t = same (grind (arith, nat_tests)) (grind (arith, nat_tests)) in grind (arith, nat_tests)
@@ -203,11 +210,14 @@ was_swept_step p u h (op.SweepOk n t fired) l d i a b = by_old (nat_le u (swept_
   where
     r : Stands h t leader.Sweep × (1 ≤ t) × (t ≤ removed_by leads h + 1)
     r = leading_at p n t leader.Sweep h l i d.0
+
     not_finished : swept_of h < u → IsDead u h ⊎ ((is_committed u h ≡ true) × (u ≤ mark_of h)) → ⊥
     not_finished m (inl x) = false≢true (sym x.uncommitted ∙ a)
     not_finished m (inr x) = let k = i.mark in omega (arith, m, x.1, k)
+
     same : swept_of h < u → u ≤ t → u ≡ t
     same m c = let g = less_or_not (done_of h) u (λ x. not_finished m (i.finished u (omega (arith, m)) x)) in let y = i.between in let z = r.2 in omega (arith, g, y.0, z, c)
+
     by_old : (c : Bool) → nat_le u (swept_of h) ≡ c → ((t == u) || is_swept u h) ≡ true
     by_old true e = or_right (t == u) (is_swept u h) (i.was_swept u a (at_most u (swept_of h) e))
     by_old false e = let m = above u (swept_of h) e in let f : u ≡ t = same m (grind (arith, nat_tests)) in grind (arith, nat_tests)
@@ -255,6 +265,7 @@ pushes_below_the_head p t h l a b = shown (i.finished t a (let c = i.between in 
   where
     i : IsInOrder p h
     i = in_order p h l
+
     shown : IsDead t h ⊎ ((is_committed t h ≡ true) × (t ≤ mark_of h)) → IsFinished t h
     shown (inl x) = inl x
     shown (inr x) = inr (x.0, i.published t x.0 x.1)

@@ -1,10 +1,14 @@
 pub mod Closing
 pub mod Committing
 pub mod Due
+pub mod Finding
+pub mod Growing
+pub mod Knowing
 pub mod Leading
 pub mod Living
 pub mod Locking
 pub mod Losing
+pub mod Losses
 pub mod Moving
 pub mod Numbers
 pub mod Outcomes

@@ -1,22 +1,18 @@
 -- Live pushes.
-use Rattle.std.specs.Prelude.{◌==◌, ◌||◌, ◌&&◌, not, nat_eq}
-use Rattle.std.proofs.Common.{◌≡◌, ◌≢◌, ℕ, ◌+◌, ◌<◌, ◌≤◌, ◌⊎◌, inl, inr, Bool, true, false, cond, List, [], ◌∷◌, refl, sym, ◌∙◌, ap, subst, arith, Option, Some, None}
-use Rattle.std.proofs.lemmas.Bool.{false≢true}
+use Rattle.std.specs.Prelude.{◌||◌, nat_eq}
+use Rattle.std.proofs.Common.{◌≡◌, ◌≢◌, ℕ, ◌+◌, ◌⊎◌, inl, inr, Bool, true, false, List, [], ◌∷◌, refl, sym, ◌∙◌, subst, arith, Option, Some, None}
 use Rattle.std.proofs.lemmas.Bool.Decides.{nat_tests}
 use Rattle.fk_base.specs.Path.{PathNames, same_path}
 use Rattle.fk_tree.specs.Sorted.{has_path, in_path_order}
 use Rattle.fk_tree.proofs.Order.{same_path_self}
 use Rattle.fk_print.specs.declared.entry.Entry.{Entry}
-use Rattle.fk_print.specs.declared.op.Op.{Op}
 use Rattle.fk_print.specs.declared.op.Op.TheVariants as op
 use Rattle.fk_spec.specs.Plan.{Plan}
-use Rattle.fk_spec.specs.Locks.{Grant, Passed, last_grant, granted, has_released, is_held_by, first_passed, passed_on}
+use Rattle.fk_spec.specs.Locks.{Grant, Passed, last_grant, granted, has_released, is_held_by, first_passed}
 use Rattle.fk_spec.specs.Settling.{settled_of, is_committed}
-use Rattle.fk_spec.specs.Follower.{commit_op, commit_locked}
-use Rattle.fk_spec.specs.Next.{IsHistory}
-use Rattle.fk_law.specs.Due.{IsDue, IsPushOf, HoldsAll}
-use Rattle.fk_law.specs.Losing.{IsOwn, IsLive, IsDead, PushIsLiveDeadOrCommitted, LiveCommits, CommitterIsLive}
-use Rattle.fk_law.proofs.Numbers.{above}
+use Rattle.fk_spec.specs.Follower.{commit_op}
+use Rattle.fk_law.specs.Due.{IsPushOf, HoldsAll}
+use Rattle.fk_law.specs.Losing.{IsOwn, IsLive, PushIsLiveDeadOrCommitted, LiveCommits, CommitterIsLive}
 use Rattle.fk_law.proofs.Settled.{commit_of, task_at_most_next}
 use Rattle.fk_law.proofs.Committing.{its_push_is_one, commits_once}
 use Rattle.fk_law.proofs.Losing.{IsOver, holds_each, ordered_has, missed_lock, settled_over}
@@ -36,6 +32,7 @@ all_held n h (q ∷ ps) f = all_held_step n h q ps (f q (or_left (same_path q q)
   where
     or_left : (a b : Bool) → a ≡ true → (a || b) ≡ true
     or_left a b e = grind arith
+
     or_right : (a b : Bool) → b ≡ true → (a || b) ≡ true
     or_right a b e = grind arith
 
@@ -63,6 +60,7 @@ live_dead_or_committed p t n c k h l x = by_settled (nat_eq (settled_of c h + 1)
     by_passed s true u o e = inr (inr u)
     by_passed s false u None e = inl (live_of p t n c k h x u s e)
     by_passed s false u (Some y) e = inr (inl (missed_lock p t n c k h y l x s e))
+
     by_settled : (b : Bool) → nat_eq (settled_of c h + 1) k ≡ b → IsLive t h ⊎ IsOver t h
     by_settled true e = by_passed (grind (arith, nat_tests)) (is_committed t h) refl (first_passed n h (in_path_order (granted n h))) refl
     by_settled false e = inr (settled_over p t n c k h x (let m = task_at_most_next p n c k h l x.task in let d : settled_of c h + 1 ≢ k = grind (arith, nat_tests) in omega (arith, m, d)))

@@ -1,34 +1,32 @@
 -- Locks: what a grant, a release and a loss say.
-use Rattle.std.specs.Prelude.{◌==◌, ◌||◌, ◌&&◌, not, is_some}
-use Rattle.std.proofs.Common.{◌≡◌, ◌≢◌, ℕ, ◌+◌, ◌<◌, ◌≤◌, ◌++◌, Bool, true, false, cond, List, [], ◌∷◌, refl, sym, ◌∙◌, ap, subst, arith, Option, Some, None}
+use Rattle.std.specs.Prelude.{◌==◌, ◌||◌, is_some}
+use Rattle.std.proofs.Common.{◌≡◌, ◌≢◌, ℕ, ◌+◌, ◌<◌, ◌≤◌, ◌++◌, Bool, true, false, List, [], ◌∷◌, refl, sym, ◌∙◌, subst, arith, Option, Some, None}
 use Rattle.std.proofs.lemmas.Bool.{false≢true}
 use Rattle.std.proofs.lemmas.Bool.Decides.{nat_tests}
 use Rattle.fk_base.specs.Path.{PathNames, same_path}
 use Rattle.fk_base.specs.declared.code.Code.{Code}
-use Rattle.fk_tree.specs.Sorted.{has_path, in_path_order}
-use Rattle.fk_tree.proofs.Order.{same_path_is, same_path_self}
+use Rattle.fk_tree.specs.Sorted.{has_path}
+use Rattle.fk_tree.proofs.Order.{same_path_is}
 use Rattle.fk_print.specs.declared.entry.Entry.{Entry}
 use Rattle.fk_print.specs.declared.op.Op.{Op}
 use Rattle.fk_print.specs.declared.op.Op.TheVariants as op
 use Rattle.fk_spec.specs.Plan.{Plan}
-use Rattle.fk_spec.specs.Start.{Task, Follows, clock_of, clock_after, task_of, starts_of, push_of, push_here, pushed_in, pushes_of, or_else}
-use Rattle.fk_spec.specs.Locks.{Grant, Passed, Loss, is_push_of, last_grant, grant_in, may_grant, granted, granted_in, has_released, releases, is_held_by, first_passed, passed_on, own_moment, own_moment_in, loss_of, loss_in}
-use Rattle.fk_spec.specs.Settling.{settled_in, settled_of, count_settling, is_committed, commits}
+use Rattle.fk_spec.specs.Start.{Follows, clock_of, clock_after, task_of, push_of, push_here, pushed_in, pushes_of, or_else}
+use Rattle.fk_spec.specs.Locks.{Grant, is_push_of, last_grant, grant_in, may_grant, granted, granted_in, has_released, releases, own_moment, own_moment_in}
+use Rattle.fk_spec.specs.Settling.{settled_in, settled_of, is_committed, commits}
 use Rattle.fk_spec.specs.Follower.{Follower}
-use Rattle.fk_spec.specs.Follower as follower
-use Rattle.fk_spec.specs.Function.{Place, Absent, Following, Leading, Telling, Beating, place_of, actor}
+use Rattle.fk_spec.specs.Function.{Following, place_of, actor}
 use Rattle.fk_spec.specs.Next.{IsHistory}
-use Rattle.fk_law.specs.Due.{IsDue, IsPushOf, Commits}
-use Rattle.fk_law.specs.Functions.{IsFor}
-use Rattle.fk_law.specs.Progress.{Progress, Asks, Works, Expires, progress, progress_after}
-use Rattle.fk_law.specs.Locking.{LockNamesAGrantedPath, LocksAreFollowers, ReleasedIsSettled, Unreleased, AtWorkIsUnreleased, PushReleasesAtItsCommit, OvertakenOnlyAfterExpiry, LossIsAfterExpiry}
+use Rattle.fk_law.specs.Due.{IsDue}
+use Rattle.fk_law.specs.Progress.{Progress, progress, progress_after}
+use Rattle.fk_law.specs.Locking.{LockNamesAGrantedPath, LocksAreFollowers, ReleasedIsSettled, Unreleased, AtWorkIsUnreleased, PushReleasesAtItsCommit, OvertakenOnlyAfterExpiry}
 use Rattle.fk_law.proofs.Due.{due}
 use Rattle.fk_law.proofs.Moving.{OnFollower, follower_step}
-use Rattle.fk_law.proofs.Starting.{follower_task, task_stays, task_bound, place_for}
-use Rattle.fk_law.proofs.Settled.{commit_of, task_at_most_next}
-use Rattle.fk_law.proofs.Committing.{at_work_unpushed, one_push, is_push_of_it, counts_more, Fresh, fresh_at}
+use Rattle.fk_law.proofs.Starting.{follower_task, task_stays}
+use Rattle.fk_law.proofs.Settled.{task_at_most_next}
+use Rattle.fk_law.proofs.Committing.{one_push, is_push_of_it, counts_more, Fresh, fresh_at}
 use Rattle.fk_law.proofs.Rising.{committed_low}
-use Rattle.fk_law.proofs.Losing.{same_sym, has_more, has_last, granted_has_grant, released, its_pusher, ordered_has}
+use Rattle.fk_law.proofs.Losing.{same_sym, has_more, has_last, granted_has_grant, released}
 
 -- Grants. ---------------------------------------------------------------------------------------------
 
@@ -110,11 +108,11 @@ at_refusal : (p : Plan) (t n : ℕ) (code : Code) (place at : ℕ) (h : List Ent
 at_refusal p t n code place at h l d i = let u = unpushed_at_work p t n h d.0 l d.1 in grind arith
 
 release_commits_step : (p : Plan) (t n : ℕ) (h : List Entry) (o : Op) → IsHistory p h → IsDue p h o
-  → (is_push_of n (push_of t h) ≡ true → has_released n h ≡ is_committed t h)
-  → ((f : Follower) → place_of p n h ≡ Following f → Unreleased (has_released n h) (progress f.stage))
-  → ((s : ℕ) → is_push_of n (push_of t h) ≡ true → is_push_of n (push_of s h) ≡ true → t ≡ s)
-  → (is_committed t h ≡ true → t ≤ pushes_of h)
-  → is_push_of n (or_else (push_here t (pushed_in (clock_of h) o)) (push_of t h)) ≡ true → (releases n h o || has_released n h) ≡ (commits t o || is_committed t h)
+    → (is_push_of n (push_of t h) ≡ true → has_released n h ≡ is_committed t h)
+    → ((f : Follower) → place_of p n h ≡ Following f → Unreleased (has_released n h) (progress f.stage))
+    → ((s : ℕ) → is_push_of n (push_of t h) ≡ true → is_push_of n (push_of s h) ≡ true → t ≡ s)
+    → (is_committed t h ≡ true → t ≤ pushes_of h)
+    → is_push_of n (or_else (push_here t (pushed_in (clock_of h) o)) (push_of t h)) ≡ true → (releases n h o || has_released n h) ≡ (commits t o || is_committed t h)
 release_commits_step p t n h (op.CommitOk m s) l d i u f b x = grind (arith, nat_tests, f s)
 release_commits_step p t n h (op.RefuseOk m code place at) l d i u f b x = grind (arith, nat_tests, at_refusal p t m code place at h l d)
 release_commits_step p t n h (op.Push m s) l d i u f b x = grind (arith, nat_tests, u d.0)
@@ -155,6 +153,7 @@ late_step p n path h (op.LockOk m q) d r i g = by_path (same_path q path) refl
     by_holder e f =
         let w : has_path path (granted n h) ≡ true = grind (arith, nat_tests) in
         late_grant p n path h (last_grant path h) refl (granted_has_grant n path h w) (subst (λ x. may_grant p.lock h (last_grant x h) ≡ true) e d.3) r (i w)
+
     by_path : (b : Bool) → same_path q path ≡ b → IsLate n (own_moment_in n path (clock_of h) (op.LockOk m q) (own_moment n path h)) p.lock (grant_in path (clock_of h) (op.LockOk m q) (last_grant path h))
     by_path true e = let f = by_holder (same_path_is q path e) in grind (arith, nat_tests)
     by_path false e = let w : has_path path (granted n h) ≡ true = grind (arith, nat_tests, has_last path q (granted n h), same_sym path q) in let j = i w in grind (arith, nat_tests)

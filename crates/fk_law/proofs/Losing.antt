@@ -1,7 +1,7 @@
 -- A push whose lock passed on never commits.
-use Rattle.std.specs.Prelude.{◌==◌, ◌||◌, ◌&&◌, not, is_some}
-use Rattle.std.proofs.Common.{◌≡◌, ◌≢◌, ℕ, ◌+◌, ◌<◌, ◌≤◌, ◌++◌, ◌⊎◌, inl, inr, Bool, true, false, cond, List, [], ◌∷◌, refl, sym, ◌∙◌, ap, subst, arith, rules, Option, Some, None}
-use Rattle.std.proofs.lemmas.Bool.{cond_both, false≢true}
+use Rattle.std.specs.Prelude.{◌==◌, ◌||◌, is_some}
+use Rattle.std.proofs.Common.{◌≡◌, ℕ, ◌+◌, ◌≤◌, ◌++◌, ◌⊎◌, inl, inr, Bool, true, false, List, [], ◌∷◌, refl, sym, ◌∙◌, ap, subst, arith, Option, Some, None}
+use Rattle.std.proofs.lemmas.Bool.{false≢true}
 use Rattle.std.proofs.lemmas.Bool.Decides.{nat_tests}
 use Rattle.fk_base.specs.Path.{PathNames, same_path}
 use Rattle.fk_base.specs.declared.code.Code.{Code}
@@ -12,18 +12,16 @@ use Rattle.fk_print.specs.declared.entry.Entry.{Entry}
 use Rattle.fk_print.specs.declared.op.Op.{Op}
 use Rattle.fk_print.specs.declared.op.Op.TheVariants as op
 use Rattle.fk_spec.specs.Plan.{Plan}
-use Rattle.fk_spec.specs.Start.{Task, Follows, Push, clock_of, task_of, push_of}
-use Rattle.fk_spec.specs.Locks.{Grant, Passed, is_push_of, last_grant, grant_in, granted, granted_in, has_released, releases, is_held_by, first_passed, passed_on}
-use Rattle.fk_spec.specs.Settling.{Committed, settling, settled_in, settled_of, count_settling, session_of_push, is_committed, commits}
-use Rattle.fk_spec.specs.Follower.{Follower}
-use Rattle.fk_spec.specs.Function.{Following, place_of}
+use Rattle.fk_spec.specs.Start.{Follows, clock_of, task_of, push_of}
+use Rattle.fk_spec.specs.Locks.{Grant, Passed, is_push_of, last_grant, grant_in, granted, granted_in, has_released, releases, is_held_by, first_passed}
+use Rattle.fk_spec.specs.Settling.{settled_in, settled_of, count_settling, session_of_push, is_committed, commits}
 use Rattle.fk_spec.specs.Next.{IsHistory}
 use Rattle.fk_law.specs.Due.{IsDue, IsPushOf, HoldsAll}
 use Rattle.fk_law.specs.Losing.{IsOthers, IsOvertaken, IsDead, DeadPushNeverCommits, OvertakenPushNeverCommits, LockMissIsDead, DeadStaysDead}
 use Rattle.fk_law.proofs.Due.{due}
 use Rattle.fk_law.proofs.Starting.{follower_task, task_stays}
 use Rattle.fk_law.proofs.Settled.{commit_of, session_of_its_push, task_at_most_next}
-use Rattle.fk_law.proofs.Committing.{its_push_stays, its_push_is_one, committed_settled, commits_once, at_work_unpushed, counts_more, committed_now, is_push_of_it}
+use Rattle.fk_law.proofs.Committing.{its_push_stays, its_push_is_one, committed_settled, at_work_unpushed, counts_more, committed_now, is_push_of_it}
 
 -- Paths. ----------------------------------------------------------------------------------------------
 
@@ -149,11 +147,14 @@ dead_no_commit p t h (op.CommitOk n s) l d x = by_test (s == t) refl
   where
     w : IsPushOf s d.0 d.1 d.2 h
     w = commit_of p n s d.0 d.1 d.2 h l d.3
+
     same : s ≡ t → (d.0 ≡ x.function) × (d.1 ≡ x.session) × (d.2 ≡ x.k)
     same e = its_push_is_one t d.0 d.1 d.2 x.function x.session x.k h (subst (λ y. IsPushOf y d.0 d.1 d.2 h) e w) x.is_of
+
     never : s ≡ t → (x.k ≤ settled_of x.session h) ⊎ IsOvertaken x.function h → ⊥
     never e (inl b) = let g = same e in let n : settled_of x.session h + 1 ≡ x.k = rw (sym g.1, sym g.2) d.4 in omega (arith, b, n)
     never e (inr o) = let g = same e in others_not_held x.function h (last_grant o.path h) o.other (holds_each x.function h o.path (subst (λ y. HoldsAll y h) g.0 d.5) o.granted)
+
     by_test : (b : Bool) → (s == t) ≡ b → (s == t) ≡ false
     by_test false e = e
     by_test true e = absurd (never (grind (arith, nat_tests)) x.cause)
@@ -167,7 +168,7 @@ dead_stays p t e h l x = record {
   is_of = its_push_stays p t x.function x.session x.k e h l x.is_of;
   uncommitted = rw (dead_no_commit p t h e.op l.0 (due p e h l) x) x.uncommitted;
   cause = elim x.cause [
-    inl b ↦ inl (counts_more x.session (settled_in h e.op) (settled_of x.session h) x.k b)
+    | inl b ↦ inl (counts_more x.session (settled_in h e.op) (settled_of x.session h) x.k b)
     | inr o ↦ inr (overtaken_stays p t x.function e h l (is_push_of_it t x.function x.session x.k h x.is_of) o)
   ];
 }
@@ -188,12 +189,15 @@ missed_lock p t m c k h x l w s e = record { function = m; session = c; k = k; i
   where
     i : (has_path x.path (granted m h) ≡ true) × (is_held_by m h (last_grant x.path h) ≡ false)
     i = passed_not_held m h x e
+
     by_commit : (b : Bool) → is_committed t h ≡ b → is_committed t h ≡ false
     by_commit false f = f
     by_commit true f = absurd (omega (arith, s, committed_settled p t m c k h l f w))
+
     not_released : (b : Bool) → has_released m h ≡ b → has_released m h ≡ false
     not_released false f = f
     not_released true f = absurd (omega (arith, s, released_settled p m c k h l f w.task))
+
     by_grant : (g : Option Grant) → is_some g ≡ true → is_held_by m h g ≡ false → IsOthers m g
     by_grant None a b = absurd (false≢true a)
     by_grant (Some g) a b = grind (arith, nat_tests, not_released (has_released m h) refl)

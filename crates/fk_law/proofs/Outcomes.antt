@@ -1,12 +1,12 @@
 -- Settled requests and their outcomes.
-use Rattle.std.specs.Prelude.{◌==◌, ◌||◌, ◌&&◌, not}
-use Rattle.std.proofs.Common.{◌≡◌, ◌≢◌, ℕ, ◌+◌, ◌<◌, ◌≤◌, ◌++◌, Bool, true, false, cond, List, [], ◌∷◌, refl, sym, ◌∙◌, ap, subst, arith, Option, Some, None}
+use Rattle.std.specs.Prelude.{◌==◌, ◌&&◌}
+use Rattle.std.proofs.Common.{◌≡◌, ℕ, ◌+◌, ◌≤◌, ◌++◌, Bool, true, false, List, [], ◌∷◌, refl, sym, ◌∙◌, ap, subst, arith, Option, Some, None}
 use Rattle.std.proofs.lemmas.Bool.Decides.{nat_tests}
 use Rattle.fk_print.specs.declared.entry.Entry.{Entry}
 use Rattle.fk_print.specs.declared.op.Op.{Op}
 use Rattle.fk_print.specs.declared.op.Op.TheVariants as op
 use Rattle.fk_spec.specs.Plan.{Plan}
-use Rattle.fk_spec.specs.Settling.{Settling, Outcome, Committed, settling, settled_in, settled_of, count_settling, outcome_of, outcome_here, session_of_push, is_committed, commits}
+use Rattle.fk_spec.specs.Settling.{Settling, Outcome, Committed, settling, settled_in, settled_of, count_settling, outcome_of, outcome_here, session_of_push, is_committed}
 use Rattle.fk_spec.specs.Next.{IsHistory}
 use Rattle.fk_law.specs.Due.{IsDue, IsPushOf}
 use Rattle.fk_law.specs.Settled.{SettledHaveAnOutcome, OutcomeIsOfASettled, OutcomeNeverChanges, AppliedIsCommitted, OneCommitForEachRequest}
@@ -63,10 +63,13 @@ applied_new p a t c k e h l b s n = record { function = d.0; is_of = its_push_st
   where
     d : IsDue p h (op.CommitOk a t)
     d = subst (IsDue p h) b (due p e h l)
+
     w : IsPushOf t d.0 d.1 d.2 h
     w = commit_of p a t d.0 d.1 d.2 h l.0 d.3
+
     f : d.1 ≡ c
     f = its_session (session_of_push t h) c d.1 (Committed t) (session_of_its_push t d.0 d.1 d.2 h w) s
+
     same : d.2 ≡ k
     same = sym d.4 ∙ ap (λ x. settled_of x h + 1) f ∙ n
 

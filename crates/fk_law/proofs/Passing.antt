@@ -1,20 +1,19 @@
 -- A follower that lost a lock.
-use Rattle.std.specs.Prelude.{◌==◌, ◌||◌, ◌&&◌, not, is_some}
-use Rattle.std.proofs.Common.{◌≡◌, ◌≢◌, ℕ, ◌+◌, ◌<◌, ◌≤◌, ◌++◌, Bool, true, false, cond, List, [], ◌∷◌, refl, sym, ◌∙◌, ap, subst, arith, Option, Some, None}
+use Rattle.std.specs.Prelude.{◌==◌, is_some}
+use Rattle.std.proofs.Common.{◌≡◌, ◌≢◌, ℕ, ◌+◌, ◌<◌, ◌≤◌, Bool, true, false, List, [], ◌∷◌, refl, sym, ◌∙◌, ap, subst, arith, Option, Some, None}
 use Rattle.std.proofs.lemmas.Bool.{false≢true}
 use Rattle.std.proofs.lemmas.Bool.Decides.{nat_tests}
-use Rattle.fk_base.specs.Path.{PathNames, same_path}
+use Rattle.fk_base.specs.Path.{PathNames}
 use Rattle.fk_base.specs.declared.code.Code.{Code}
 use Rattle.fk_tree.specs.Sorted.{has_path, in_path_order}
 use Rattle.fk_print.specs.declared.entry.Entry.{Entry}
 use Rattle.fk_print.specs.declared.op.Op.{Op}
 use Rattle.fk_print.specs.declared.op.Op.TheVariants as op
 use Rattle.fk_spec.specs.Plan.{Plan}
-use Rattle.fk_spec.specs.Start.{Start, Task, Follows, clock_of, task_of, task_here, starts_of, started_in, count_start, or_else}
-use Rattle.fk_spec.specs.Locks.{Grant, Passed, Loss, last_grant, granted, has_released, is_held_by, first_passed, passed_on, own_moment, own_moment_in, loss_of, loss_in}
+use Rattle.fk_spec.specs.Start.{Start, Task, Follows, task_of, task_here, starts_of, started_in, count_start, or_else}
+use Rattle.fk_spec.specs.Locks.{Grant, Passed, Loss, last_grant, granted, has_released, is_held_by, first_passed, passed_on, own_moment, loss_of, loss_in}
 use Rattle.fk_spec.specs.Settling.{settled_of}
-use Rattle.fk_spec.specs.Follower.{Follower}
-use Rattle.fk_spec.specs.Function.{Place, Absent, Following, Leading, Telling, Beating, place_of, is_absent, actor}
+use Rattle.fk_spec.specs.Function.{Place, place_of, is_absent, actor}
 use Rattle.fk_spec.specs.Next.{IsHistory}
 use Rattle.fk_law.specs.Due.{IsDue, Commits}
 use Rattle.fk_law.specs.Functions.{IsFor}
@@ -37,8 +36,11 @@ found_is n h [] x e = absurd (grind arith)
 found_is n h (q ∷ ps) x e = found_step n h q ps x (passed_path q (last_grant q h)) (found_is n h ps x) e
 
 -- another function was granted it more than the lock time after n was
-abbrev IsLateFind : Plan → ℕ → List Entry → Passed → Type 0
-IsLateFind p n h x = (x.holder ≢ n) × (own_moment n x.path h + p.lock < x.moment)
+abbrev pub IsLateFind : Plan → ℕ → List Entry → Passed → Type 0
+IsLateFind p n h x = (x.holder ≢ n) × (own_moment n x.path h + p.lock < x.moment) × (last_grant x.path h ≡ Some (record { holder = x.holder; moment = x.moment })) × (has_path x.path (granted n h) ≡ true)
+
+grant_is : (x : Passed) (g : Grant) → x ≡ passed_on x.path (Some g) → Some g ≡ Some (record { holder = x.holder; moment = x.moment })
+grant_is x g e = ap (λ (z : Passed). Some (record { holder = z.holder; moment = z.moment })) (sym e)
 
 find_grant : (p : Plan) (n c k : ℕ) (h : List Entry) (x : Passed) (o : Option Grant) → IsHistory p h → task_of n h ≡ Some (Follows c k) → settled_of c h + 1 ≡ k → last_grant x.path h ≡ o → is_some o ≡ true → has_path x.path (granted n h) ≡ true → is_held_by n h o ≡ false → has_released n h ≡ false → x ≡ passed_on x.path o → IsLateFind p n h x
 find_grant p n c k h x None l t s b a g u r e = absurd (false≢true a)
@@ -47,7 +49,7 @@ find_grant p n c k h x (Some y) l t s b a g u r e =
     let m = overtaken_only_after_expiry p n c k x.path y h l t s g b f in
     let i : y.holder ≡ x.holder = sym (ap (λ z. z.holder) e) in
     let j : y.moment ≡ x.moment = sym (ap (λ z. z.moment) e) in
-    (subst (λ z. z ≢ n) i f, subst (λ z. own_moment n x.path h + p.lock < z) j m)
+    (subst (λ z. z ≢ n) i f, subst (λ z. own_moment n x.path h + p.lock < z) j m, b ∙ grant_is x y e, g)
   where
     not_own : (y : Grant) → is_held_by n h (Some y) ≡ false → has_released n h ≡ false → y.holder ≢ n
     not_own y u r = grind (arith, nat_tests)
@@ -67,12 +69,12 @@ IsLateLoss p n x = (x.found ≢ n) × (x.own + p.lock < x.moment)
 loss_found : (p : Plan) (n : ℕ) (h : List Entry) (path : PathNames) (holder moment : ℕ) (x : Loss) → IsLateFind p n h (record { path = path; holder = holder; moment = moment }) → Some (record { path = path; own = own_moment n path h; found = holder; moment = moment }) ≡ Some x → IsLateLoss p n x
 loss_found p n h path holder moment x i e = grind arith
 
-loss_commit : (p : Plan) (n t c k : ℕ) (path : PathNames) (holder moment : ℕ) (h : List Entry) → IsHistory p h → IsDue p h (op.CommitLock n t path holder moment) → task_of n h ≡ Some (Follows c k) → IsLateFind p n h (record { path = path; holder = holder; moment = moment })
+pub loss_commit : (p : Plan) (n t c k : ℕ) (path : PathNames) (holder moment : ℕ) (h : List Entry) → IsHistory p h → IsDue p h (op.CommitLock n t path holder moment) → task_of n h ≡ Some (Follows c k) → IsLateFind p n h (record { path = path; holder = holder; moment = moment })
 loss_commit p n t c k path holder moment h l d b =
     let i = own_commit n t d.0 d.1 d.2 c k h (place_of p n h) (place_for p n h l) b d.3 in
     find_late p n c k h (record { path = path; holder = holder; moment = moment }) l b (rw (sym i.1, sym i.2) d.4) (subst (λ z. first_passed z h (in_path_order (granted z h)) ≡ Some (record { path = path; holder = holder; moment = moment })) i.0 d.5)
 
-loss_refusal : (p : Plan) (n c k : ℕ) (code : Code) (place at : ℕ) (path : PathNames) (holder moment : ℕ) (h : List Entry) → IsHistory p h → IsDue p h (op.RefuseLock n code place at path holder moment) → task_of n h ≡ Some (Follows c k) → IsLateFind p n h (record { path = path; holder = holder; moment = moment })
+pub loss_refusal : (p : Plan) (n c k : ℕ) (code : Code) (place at : ℕ) (path : PathNames) (holder moment : ℕ) (h : List Entry) → IsHistory p h → IsDue p h (op.RefuseLock n code place at path holder moment) → task_of n h ≡ Some (Follows c k) → IsLateFind p n h (record { path = path; holder = holder; moment = moment })
 loss_refusal p n c k code place at path holder moment h l d b =
     find_late p n d.0.session d.0.k h (record { path = path; holder = holder; moment = moment }) l (follower_task p n h d.0 l d.1) d.2 d.4
 
@@ -101,15 +103,15 @@ no_loss_step p n h (op.CommitLock m t path holder moment) l d b i = let g = plac
 no_loss_step p n h (op.RefuseLock m code place at path holder moment) l d b i = let g = place_bound p m h l (rw d.1 refl) in grind (arith, nat_tests)
 no_loss_step p n h o l d b i = grind arith
 
-no_loss : (p : Plan) (n : ℕ) (h : List Entry) → IsHistory p h → starts_of h < n → loss_of n h ≡ None
+pub no_loss : (p : Plan) (n : ℕ) (h : List Entry) → IsHistory p h → starts_of h < n → loss_of n h ≡ None
 no_loss p n [] l b = refl
 no_loss p n (e ∷ h) l b = let g = starts_grow (started_in e.op) (starts_of h) in let c : starts_of h < n = omega (arith, g, b) in no_loss_step p n h e.op l.0 (due p e h l) c (no_loss p n h l.0 c)
 
 -- a start is of a function that has lost nothing
-task_or_none : (p : Plan) (n : ℕ) (x : Task) (h : List Entry) (o : Op) → IsDue p h o → (task_of n h ≡ Some x → ⊥) → or_else (task_here n (started_in o)) (task_of n h) ≡ Some x → (starts_of h < n) × (actor o ≡ None)
+pub task_or_none : (p : Plan) (n : ℕ) (x : Task) (h : List Entry) (o : Op) → IsDue p h o → (task_of n h ≡ Some x → ⊥) → or_else (task_here n (started_in o)) (task_of n h) ≡ Some x → (starts_of h < n) × (actor o ≡ None)
 task_or_none p n x h o d f e = grind (arith, nat_tests)
 
-none_lost : (n : ℕ) (h : List Entry) (o : Op) (y : Option Loss) → actor o ≡ None → loss_in n h o y ≡ y
+pub none_lost : (n : ℕ) (h : List Entry) (o : Op) (y : Option Loss) → actor o ≡ None → loss_in n h o y ≡ y
 none_lost n h o y a = grind arith
 
 loss_entry : (p : Plan) (n c k : ℕ) (x : Loss) (e : Entry) (h : List Entry) (o : Option Task) → task_of n h ≡ o → IsHistory p (e ∷ h) → task_of n (e ∷ h) ≡ Some (Follows c k) → (task_of n h ≡ Some (Follows c k) → loss_of n h ≡ Some x → IsLateLoss p n x) → loss_of n (e ∷ h) ≡ Some x → IsLateLoss p n x

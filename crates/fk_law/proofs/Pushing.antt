@@ -1,19 +1,18 @@
 -- Pushes: their numbers, their functions and their requests.
-use Rattle.std.specs.Prelude.{◌==◌}
-use Rattle.std.proofs.Common.{◌≡◌, ◌≢◌, ℕ, ◌+◌, ◌<◌, ◌≤◌, ◌++◌, Bool, true, false, cond, List, [], ◌∷◌, refl, sym, ◌∙◌, ap, subst, arith, rules, Option, Some, None}
+use Rattle.std.proofs.Common.{◌≡◌, ℕ, ◌≤◌, ◌++◌, true, List, [], ◌∷◌, refl, sym, ◌∙◌, ap, subst, arith, Option, Some, None}
 use Rattle.std.proofs.lemmas.Bool.Decides.{nat_tests}
 use Rattle.fk_print.specs.declared.entry.Entry.{Entry}
 use Rattle.fk_print.specs.declared.op.Op.{Op}
 use Rattle.fk_print.specs.declared.op.Op.TheVariants as op
 use Rattle.fk_spec.specs.Plan.{Plan}
-use Rattle.fk_spec.specs.Start.{Task, Follows, Push, clock_of, task_of, push_of, push_here, pushed_in, pushes_of, count_push, or_else, started_in, task_here}
+use Rattle.fk_spec.specs.Start.{Follows, Push, clock_of, task_of, push_of, push_here, pushed_in, pushes_of, count_push, or_else}
 use Rattle.fk_spec.specs.Locks.{is_push_of}
 use Rattle.fk_spec.specs.Follower.{Follower}
 use Rattle.fk_spec.specs.Follower as follower
-use Rattle.fk_spec.specs.Function.{Place, Following, place_of, actor, place_by}
+use Rattle.fk_spec.specs.Function.{Following, place_of, actor}
 use Rattle.fk_spec.specs.Next.{IsHistory}
-use Rattle.fk_law.specs.Due.{IsDue, IsPushOf}
-use Rattle.fk_law.specs.Progress.{Progress, Asks, Works, Commits, progress, progress_after}
+use Rattle.fk_law.specs.Due.{IsDue}
+use Rattle.fk_law.specs.Progress.{Progress, Commits, progress, progress_after}
 use Rattle.fk_law.proofs.Due.{due}
 use Rattle.fk_law.proofs.Moving.{OnFollower, follower_step}
 use Rattle.fk_law.proofs.Starting.{follower_task, task_stays}

@@ -1,18 +1,17 @@
 -- Commits on a path and in a session come in the order of their numbers.
-use Rattle.std.specs.Prelude.{◌==◌, ◌||◌, ◌&&◌, not, nat_le}
-use Rattle.std.proofs.Common.{◌≡◌, ◌≢◌, ℕ, ◌+◌, ◌<◌, ◌≤◌, ◌++◌, ◌⊎◌, inl, inr, Bool, true, false, cond, List, [], ◌∷◌, refl, sym, ◌∙◌, ap, subst, arith, rules, Option, Some, None}
-use Rattle.std.proofs.lemmas.Bool.{cond_both, false≢true}
+use Rattle.std.specs.Prelude.{◌||◌, nat_le}
+use Rattle.std.proofs.Common.{◌≡◌, ◌≢◌, ℕ, ◌+◌, ◌<◌, ◌≤◌, ◌++◌, Bool, true, false, List, [], ◌∷◌, refl, sym, ◌∙◌, ap, subst, arith, Option, Some, None}
+use Rattle.std.proofs.lemmas.Bool.{false≢true}
 use Rattle.std.proofs.lemmas.Bool.Decides.{nat_tests}
-use Rattle.fk_base.specs.Path.{PathNames, same_path}
+use Rattle.fk_base.specs.Path.{PathNames}
 use Rattle.fk_tree.specs.Sorted.{has_path}
-use Rattle.fk_tree.proofs.Order.{same_path_is, same_path_self}
 use Rattle.fk_print.specs.declared.entry.Entry.{Entry}
 use Rattle.fk_print.specs.declared.op.Op.{Op}
 use Rattle.fk_print.specs.declared.op.Op.TheVariants as op
 use Rattle.fk_spec.specs.Plan.{Plan}
-use Rattle.fk_spec.specs.Start.{Task, Follows, Push, clock_of, task_of, push_of, push_here, pushed_in, pushes_of, or_else}
+use Rattle.fk_spec.specs.Start.{Follows, Push, clock_of, task_of, push_of, push_here, pushed_in, pushes_of, or_else}
 use Rattle.fk_spec.specs.Locks.{Grant, is_push_of, last_grant, grant_in, granted, granted_in, is_held_by}
-use Rattle.fk_spec.specs.Settling.{is_committed, commits, settled_of, settled_in, count_settling}
+use Rattle.fk_spec.specs.Settling.{is_committed, commits, settled_of, settled_in}
 use Rattle.fk_spec.specs.Next.{IsHistory}
 use Rattle.fk_law.specs.Due.{IsDue, IsPushOf, HoldsAll}
 use Rattle.fk_law.specs.Rising.{CommitsRiseOnAPath, CommitsRiseInASession, CommitterHoldsItsPaths, OneOfTwoCommits}
@@ -52,12 +51,12 @@ own_before : (n m : ℕ) (q path : PathNames) (h : List Entry) → (m ≡ n → 
 own_before n m q path h f g = grind (arith, nat_tests)
 
 meets_step : (p : Plan) (t n s m : ℕ) (path : PathNames) (h : List Entry) (o : Op) → IsHistory p h → IsDue p h o → Before t n s m path h
-  → (is_committed s h ≡ true → s ≤ pushes_of h)
-  → is_push_of n (or_else (push_here t (pushed_in (clock_of h) o)) (push_of t h)) ≡ true
-  → is_push_of m (or_else (push_here s (pushed_in (clock_of h) o)) (push_of s h)) ≡ true
-  → (commits t o || is_committed t h) ≡ false → (commits s o || is_committed s h) ≡ true
-  → has_path path (granted_in m o (granted m h)) ≡ true → has_path path (granted_in n o (granted n h)) ≡ true
-  → IsOwn n (grant_in path (clock_of h) o (last_grant path h)) → s < t
+    → (is_committed s h ≡ true → s ≤ pushes_of h)
+    → is_push_of n (or_else (push_here t (pushed_in (clock_of h) o)) (push_of t h)) ≡ true
+    → is_push_of m (or_else (push_here s (pushed_in (clock_of h) o)) (push_of s h)) ≡ true
+    → (commits t o || is_committed t h) ≡ false → (commits s o || is_committed s h) ≡ true
+    → has_path path (granted_in m o (granted m h)) ≡ true → has_path path (granted_in n o (granted n h)) ≡ true
+    → IsOwn n (grant_in path (clock_of h) o (last_grant path h)) → s < t
 meets_step p t n s m path h (op.Push a u) l d i b x y v w g k o = grind (arith, nat_tests)
 meets_step p t n s m path h (op.CommitOk a u) l d i b x y v w g k o = grind (arith, nat_tests, commit_meets p a u t n s m path h l d)
 meets_step p t n s m path h (op.LockOk a q) l d i b x y v w g k o =
@@ -109,14 +108,19 @@ its_push_before p t n c k e h l a b i = record { push = x.0; pushed = x.1; funct
   where
     x : (y : Push) × (push_of t h ≡ Some y)
     x = push_there p t h l.0 a b
+
     r : (d j : ℕ) × (task_of x.0.function h ≡ Some (Follows d j))
     r = push_request p t h x.0 l.0 x.1
+
     some_same : (y z : Push) → Some y ≡ Some z → y ≡ z
     some_same y z e = cc
+
     f : x.0.function ≡ n
     f = ap (λ y. y.function) (some_same x.0 i.push (sym (push_stays p t e h x.0 l x.1) ∙ i.pushed)) ∙ i.function
+
     w : task_of n h ≡ Some (Follows r.0 r.1)
     w = subst (λ y. task_of y h ≡ Some (Follows r.0 r.1)) f r.2
+
     g : task_of n h ≡ Some (Follows c k)
     g = w ∙ (sym (task_stays p n e h (Follows r.0 r.1) l w) ∙ i.task)
 
@@ -128,7 +132,7 @@ new_commit p s m c j h (op.CommitOk a u) l d e i =
     rw (sym g.1, sym g.2) d.4
 new_commit p s m c j h o l d e i = absurd (grind arith)
 
-pushed_before : (p : Plan) (s : ℕ) (h : List Entry) (o : Op) → IsHistory p h → IsDue p h o → (commits s o || is_committed s h) ≡ true → s ≤ pushes_of h
+pub pushed_before : (p : Plan) (s : ℕ) (h : List Entry) (o : Op) → IsHistory p h → IsDue p h o → (commits s o || is_committed s h) ≡ true → s ≤ pushes_of h
 pushed_before p s h (op.CommitOk a u) l d i =
     let w = commit_of p a u d.0 d.1 d.2 h l d.3 in
     let b = (push_bound p u h w.push l w.pushed).2 in
@@ -157,6 +161,7 @@ session_step p t n c k s m j e h l i x z v w = by_old (nat_le t (pushes_of h)) r
   where
     low : s ≤ pushes_of h
     low = pushed_before p s h e.op l.0 (due p e h l) v
+
     by_old : (b : Bool) → nat_le t (pushes_of h) ≡ b → s < t
     by_old true f =
         let a = its_push_before p t n c k e h l (push_bound p t (e ∷ h) x.push l x.pushed).1 (at_most t (pushes_of h) f) x in

@@ -1,6 +1,6 @@
 -- Requests: what was sent, pushed and committed.
-use Rattle.std.specs.Prelude.{◌==◌, ◌||◌, ◌&&◌, nat_eq}
-use Rattle.std.proofs.Common.{◌≡◌, ◌≢◌, ℕ, ◌+◌, ◌<◌, ◌≤◌, ◌++◌, Bool, true, false, cond, List, [], ◌∷◌, refl, sym, ◌∙◌, ap, subst, arith, Option, Some, None}
+use Rattle.std.specs.Prelude.{◌||◌, nat_eq}
+use Rattle.std.proofs.Common.{◌≡◌, ◌≢◌, ℕ, ◌+◌, ◌≤◌, ◌++◌, Bool, true, false, List, [], ◌∷◌, refl, sym, ◌∙◌, ap, subst, arith, Option, Some, None}
 use Rattle.std.proofs.lemmas.Bool.{false≢true}
 use Rattle.std.proofs.lemmas.Bool.Decides.{nat_tests}
 use Rattle.fk_tree.specs.declared.applied.Applied.{Applied}
@@ -9,8 +9,8 @@ use Rattle.fk_tree.specs.declared.request.Request.TheVariants as request
 use Rattle.fk_print.specs.declared.entry.Entry.{Entry}
 use Rattle.fk_print.specs.declared.op.Op.{Op}
 use Rattle.fk_print.specs.declared.op.Op.TheVariants as op
-use Rattle.fk_spec.specs.Plan.{Plan, Ask, asked}
-use Rattle.fk_spec.specs.Start.{Origin, Sent, Evicted, Pushed, Follows, sends_of, sent_in, count_sent, origin_of, origin_here, request_of, request_from, written, pushed_of, pushed_by, pushed_for, pushed_request, task_of, push_of}
+use Rattle.fk_spec.specs.Plan.{Plan, asked}
+use Rattle.fk_spec.specs.Start.{Origin, Sent, Evicted, Pushed, Follows, sends_of, sent_in, count_sent, origin_of, origin_here, request_of, request_from, written, pushed_of, pushed_by, pushed_for, pushed_request, task_of}
 use Rattle.fk_spec.specs.Settling.{is_committed, commits}
 use Rattle.fk_spec.specs.Stored.{committed_of, committed_in, committed_as, applied_as, with_filled, filled_after}
 use Rattle.fk_spec.specs.Next.{IsHistory}

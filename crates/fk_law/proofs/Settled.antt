@@ -1,29 +1,26 @@
 -- Requests of a session are settled one after another.
-use Rattle.std.specs.Prelude.{◌==◌}
-use Rattle.std.proofs.Common.{◌≡◌, ◌≢◌, ℕ, ◌+◌, ◌<◌, ◌≤◌, ◌++◌, Bool, true, false, cond, List, [], ◌∷◌, refl, sym, ◌∙◌, ap, subst, arith, rules, Option, Some, None}
+use Rattle.std.proofs.Common.{◌≡◌, ℕ, ◌+◌, ◌≤◌, Bool, true, List, [], ◌∷◌, refl, ◌∙◌, subst, arith, Option, Some, None}
 use Rattle.std.proofs.lemmas.Bool.Decides.{nat_tests}
 use Rattle.fk_print.specs.declared.entry.Entry.{Entry}
 use Rattle.fk_print.specs.declared.op.Op.{Op}
 use Rattle.fk_print.specs.declared.op.Op.TheVariants as op
 use Rattle.fk_spec.specs.Plan.{Plan}
-use Rattle.fk_spec.specs.Start.{Task, Follows, Leads, Push, clock_of, task_of, push_of, pushes_of, or_else, started_in, task_here, sends_of, sent_in, count_sent, session_followed, Origin}
+use Rattle.fk_spec.specs.Start.{Task, Follows, Push, task_of, push_of, or_else, started_in, task_here, sends_of, sent_in, count_sent, session_followed, Origin}
 use Rattle.fk_spec.specs.Locks.{is_push_of, loss_of}
 use Rattle.fk_spec.specs.Settling.{Settling, Outcome, Committed, Refused, Passed, settling, settled_in, settled_of, count_settling, session_of_push}
-use Rattle.fk_spec.specs.Lanes.{follows_session, leads, removed_by, removed_in, session_head}
+use Rattle.fk_spec.specs.Lanes.{follows_session, removed_by, removed_in}
 use Rattle.fk_spec.specs.Follower.{Follower}
 use Rattle.fk_spec.specs.Follower as follower
-use Rattle.fk_spec.specs.Leader as leader
-use Rattle.fk_spec.specs.Function.{Place, Absent, Following, Leading, Telling, Beating, place_of, actor, place_by}
+use Rattle.fk_spec.specs.Function.{Place, Absent, Following, Leading, Telling, Beating, place_of, actor}
 use Rattle.fk_spec.specs.Next.{IsHistory}
 use Rattle.fk_law.specs.Due.{IsDue, IsPushOf, Commits}
 use Rattle.fk_law.specs.Due as due_so
 use Rattle.fk_law.specs.Functions.{IsFor}
-use Rattle.fk_law.specs.Settled.{IsNext, Answered, MessageIsReached, SettlesTheNext, SettledIsRemovedOrOneMore, SettledWereSent, AnsweredIsSettled}
-use Rattle.fk_law.specs.Progress.{Progress, Asks, Works, Acks, Replies, progress, progress_after}
-use Rattle.fk_law.specs.Progress as so_far
+use Rattle.fk_law.specs.Settled.{IsNext, Answered, SettledWereSent}
+use Rattle.fk_law.specs.Progress.{Progress, progress, progress_after}
 use Rattle.fk_law.proofs.Due.{due}
 use Rattle.fk_law.proofs.Moving.{OnFollower, follower_step}
-use Rattle.fk_law.proofs.Starting.{follower_task, task_stays, place_for}
+use Rattle.fk_law.proofs.Starting.{follower_task, place_for}
 use Rattle.fk_law.proofs.Pushing.{at_commit}
 
 -- A message that a follower was started for stands in its lane, at most one beyond the removed ones.
@@ -44,8 +41,10 @@ commit_of p n t m c k h l i = by_place (place_of p n h) refl i
     by_push : (o : Option Push) → push_of t h ≡ o → is_push_of m o ≡ true → task_of m h ≡ Some (Follows c k) → IsPushOf t m c k h
     by_push None e a b = absurd (grind arith)
     by_push (Some x) e a b = record { push = x; pushed = e; function = grind (arith, nat_tests); task = b }
+
     follows : (f : Follower) → place_of p n h ≡ Following f → f.stage ≡ follower.Commit t → m ≡ n → f.session ≡ c → f.k ≡ k → IsPushOf t m c k h
     follows f e s a b d = by_push (push_of t h) refl (rw a (at_commit p t n h f l e s)) (rw (a, ← b, ← d) (follower_task p n h f l e))
+
     by_place : (x : Place) → place_of p n h ≡ x → Commits n t m c k h x → IsPushOf t m c k h
     by_place (Following f) e i = follows f e i.0 i.1 i.2 i.3
     by_place (Leading s stage) e i = i.2
@@ -120,13 +119,16 @@ settled_step p e h l i = record { between = between_step; answered = answered_st
   where
     at : (n : ℕ) (f : Follower) → place_of p n h ≡ Following f → Answered (settled_of f.session h) f.k (progress f.stage)
     at n f b = subst (OnFollower (AnsweredIn h)) b (i.answered n)
+
     reach : (n : ℕ) (f : Follower) → place_of p n h ≡ Following f → f.k ≤ settled_of f.session h + 1
     reach n f b = let r = reached p n f.session f.k h l.0 (follower_task p n h f l.0 b) in let s = i.between f.session in omega (arith, r.1, s.0)
+
     between_step : (c : ℕ) → IsBetween (removed_by (follows_session c) (e ∷ h)) (settled_of c (e ∷ h))
     between_step c =
         let u = upper_step c h (settled_in h e.op) (λ s b. settles_the_next p e h s l b) (λ m k b. (reached p m c k h l.0 b).1) (i.between c).1 in
         let g = removed_grows (follows_session c) h e.op (removed_by (follows_session c) h) in
         (lower_step p c h e.op l.0 (due p e h l) i.answered (i.between c).0, omega (arith, u, g.0))
+
     answered_step : (n : ℕ) → OnFollower (AnsweredIn (e ∷ h)) (place_of p n (e ∷ h))
     answered_step n =
         follower_step p n h e.op (place_of p n h) (AnsweredIn (e ∷ h))

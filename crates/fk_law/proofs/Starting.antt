@@ -1,21 +1,18 @@
 -- Functions: their numbers and their tasks.
-use Rattle.std.specs.Prelude.{◌==◌}
-use Rattle.std.proofs.Common.{◌≡◌, ◌≢◌, ℕ, ◌+◌, ◌<◌, ◌≤◌, ◌++◌, Bool, true, false, cond, List, [], ◌∷◌, refl, sym, ◌∙◌, ap, subst, arith, rules, Option, Some, None}
+use Rattle.std.proofs.Common.{◌≡◌, ◌+◌, ℕ, ◌≤◌, ◌++◌, false, List, [], ◌∷◌, refl, sym, subst, arith, Option, Some, None}
 use Rattle.std.proofs.lemmas.Bool.Decides.{nat_tests}
 use Rattle.fk_print.specs.declared.entry.Entry.{Entry}
 use Rattle.fk_print.specs.declared.op.Op.{Op}
-use Rattle.fk_print.specs.declared.op.Op.TheVariants as op
 use Rattle.fk_spec.specs.Plan.{Plan}
 use Rattle.fk_spec.specs.Start.{Start, Task, Follows, Leads, Notifies, Probes, started_in, starts_of, task_of, task_here, or_else, count_start}
-use Rattle.fk_spec.specs.Follower.{Follower, begin}
+use Rattle.fk_spec.specs.Follower.{Follower}
 use Rattle.fk_spec.specs.Leader as leader
-use Rattle.fk_spec.specs.Teller as teller
-use Rattle.fk_spec.specs.Heartbeat as heartbeat
 use Rattle.fk_spec.specs.Teller.{Note, note_of}
-use Rattle.fk_spec.specs.Function.{Place, Absent, Following, Leading, Telling, Beating, place_of, is_absent, actor, placed, telling, moved, place_by}
+use Rattle.fk_spec.specs.Function.{Place, Absent, Following, Leading, Telling, Beating, place_of, is_absent, actor, placed, telling, moved}
 use Rattle.fk_spec.specs.Next.{IsHistory}
 use Rattle.fk_law.specs.Due.{IsDue}
-use Rattle.fk_law.specs.Functions.{IsFor}
+use Rattle.fk_spec.specs.Lanes.{notifies, removed_by, removed_in, notes_of, note_count}
+use Rattle.fk_law.specs.Functions.{IsFor, TellerWorksAtOrBelowTheHead}
 use Rattle.fk_law.proofs.Due.{due}
 use Rattle.fk_law.proofs.Moving.{place_step, moved_follower, moved_leader}
 
@@ -96,3 +93,12 @@ follower_task p n h f l e = subst (IsFor (task_of n h)) e (place_for p n h l)
 
 pub leader_task : (p : Plan) (n : ℕ) (h : List Entry) (t : ℕ) (s : leader.Stage) → IsHistory p h → place_of p n h ≡ Leading t s → task_of n h ≡ Some (Leads t)
 leader_task p n h t s l e = subst (IsFor (task_of n h)) e (place_for p n h l)
+
+-- watch functions ------------------------------------------------------------------------------------
+
+teller_step : (p : Plan) (n w : ℕ) (h : List Entry) (o : Op) → IsDue p h o → (task_of n h ≡ Some (Notifies w) → (1 ≤ w) × (w ≤ removed_by notifies h + 1) × (w ≤ notes_of h)) → or_else (task_here n (started_in o)) (task_of n h) ≡ Some (Notifies w) → (1 ≤ w) × (w ≤ removed_in notifies h o (removed_by notifies h) + 1) × (w ≤ note_count o (notes_of h))
+teller_step p n w h o d i e = grind (arith, nat_tests)
+
+pub teller_at_or_below_the_head : TellerWorksAtOrBelowTheHead
+teller_at_or_below_the_head p n w [] l i = absurd (grind arith)
+teller_at_or_below_the_head p n w (e ∷ h) l i = teller_step p n w h e.op (due p e h l) (teller_at_or_below_the_head p n w h l.0) i

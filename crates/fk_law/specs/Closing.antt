@@ -1,7 +1,6 @@
 -- Closed sessions.
-use Rattle.std.specs.Prelude.{◌≡◌, ℕ, ◌+◌, Bool, true, false, List, [], ◌∷◌}
+use Rattle.std.specs.Prelude.{◌≡◌, ℕ, ◌+◌, false, List}
 use Rattle.fk_print.specs.declared.entry.Entry.{Entry}
-use Rattle.fk_print.specs.declared.op.Op.{Op}
 use Rattle.fk_print.specs.declared.op.Op.TheVariants as op
 use Rattle.fk_spec.specs.Plan.{Plan}
 use Rattle.fk_spec.specs.Settling.{settled_of}
@@ -10,7 +9,7 @@ use Rattle.fk_spec.specs.Follower.{Follower}
 use Rattle.fk_spec.specs.Function.{Following, place_of}
 use Rattle.fk_spec.specs.Next.{IsHistory}
 use Rattle.fk_law.specs.Due.{IsDue, IsPushOf}
-use Rattle.fk_law.specs.Progress.{Progress, Works, progress}
+use Rattle.fk_law.specs.Progress.{Works, progress}
 
 -- Where a follower is at work on the request that its session settles next, no close of the session was committed.
 abbrev pub AtWorkIsOpen : Type 0

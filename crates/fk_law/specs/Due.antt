@@ -10,10 +10,11 @@ use Rattle.fk_print.specs.declared.op.Op.{Op}
 use Rattle.fk_print.specs.declared.op.Op.TheVariants as op
 use Rattle.fk_spec.specs.Plan.{Plan, asked}
 use Rattle.fk_spec.specs.Start.{Follows, Push, clock_of, starts_of, task_of, pushes_of, push_of, sends_of, written}
-use Rattle.fk_spec.specs.Locks.{last_grant, may_grant, granted, first_passed}
+use Rattle.fk_spec.specs.Locks.{Loss, last_grant, may_grant, granted, first_passed}
+use Rattle.fk_spec.specs.Settling as settling
 use Rattle.fk_spec.specs.Settling.{Outcome, Committed, settled_of, outcome_of, is_pending, done_of, swept_of, mark_of}
 use Rattle.fk_spec.specs.Stored.{stored_view, stamp_of}
-use Rattle.fk_spec.specs.Lanes.{session_head, leader_head, watch_head, notes_of}
+use Rattle.fk_spec.specs.Lanes.{session_head, leader_head, watch_head, notes_of, Message, Done, Evicted, Kept, Watch, Ping, inbox_of}
 use Rattle.fk_spec.specs.Follower.{Follower}
 use Rattle.fk_spec.specs.Follower as follower
 use Rattle.fk_spec.specs.Leader as leader
@@ -137,6 +138,12 @@ IsDue p h (op.NoteOk n) = (c : ℕ) × (place_of p n h ≡ Beating c heartbeat.N
 IsDue p h (op.NoteMiss n ping) = (c : ℕ) × (place_of p n h ≡ Beating c heartbeat.Note)
 IsDue p h (op.Evict n k) = (c : ℕ) × (place_of p n h ≡ Beating c heartbeat.Evict) × (k ≡ sends_of c h + 1)
 IsDue p h (op.Send c command k) = (k ≡ sends_of c h + 1) × (r : Request) × (written (asked p c command) ≡ Some r)
+IsDue p h (op.TakeDone c k t) = (ms : List Message) × (inbox_of p c h ≡ Done k t ∷ ms)
+IsDue p h (op.TakeEvicted c k t) = (ms : List Message) × (inbox_of p c h ≡ Evicted k t ∷ ms)
+IsDue p h (op.TakeRefused c k) = (o : Outcome) × (ms : List Message) × (inbox_of p c h ≡ Kept k o ∷ ms)
+IsDue p h (op.TakeLost c k) = (loss : Option Loss) × (ms : List Message) × (inbox_of p c h ≡ Kept k (settling.Passed loss) ∷ ms)
+IsDue p h (op.TakeWatch c watch) = (ms : List Message) × (inbox_of p c h ≡ Watch watch ∷ ms)
+IsDue p h (op.TakePing c ping) = (ms : List Message) × (inbox_of p c h ≡ Ping ping ∷ ms)
 IsDue p h _ = Unit {0}
 
 -- Each entry of a history is due.

@@ -1,8 +1,9 @@
 -- Functions: their numbers and their tasks.
-use Rattle.std.specs.Prelude.{◌≡◌, ℕ, ◌≤◌, ◌++◌, Bool, true, false, List, [], ◌∷◌, Option, Some, None}
+use Rattle.std.specs.Prelude.{◌≡◌, ℕ, ◌+◌, ◌≤◌, ◌++◌, false, List, Option, Some}
 use Rattle.fk_print.specs.declared.entry.Entry.{Entry}
 use Rattle.fk_spec.specs.Plan.{Plan}
 use Rattle.fk_spec.specs.Start.{Task, Follows, Leads, Notifies, Probes, starts_of, task_of}
+use Rattle.fk_spec.specs.Lanes.{notifies, removed_by, notes_of}
 use Rattle.fk_spec.specs.Function.{Place, Absent, Following, Leading, Telling, Beating, place_of, is_absent}
 use Rattle.fk_spec.specs.Next.{IsHistory}
 
@@ -29,3 +30,7 @@ TaskNeverChanges = (p : Plan) (n : ℕ) (h more : List Entry) (x : Task) → IsH
 -- A function in flight does what it was started for.
 abbrev pub FunctionDoesItsTask : Type 0
 FunctionDoesItsTask = (p : Plan) (n : ℕ) (h : List Entry) → IsHistory p h → IsFor (task_of n h) (place_of p n h)
+
+-- A watch function was started for a note that is at most one beyond the removed ones.
+abbrev pub TellerWorksAtOrBelowTheHead : Type 0
+TellerWorksAtOrBelowTheHead = (p : Plan) (n w : ℕ) (h : List Entry) → IsHistory p h → task_of n h ≡ Some (Notifies w) → (1 ≤ w) × (w ≤ removed_by notifies h + 1) × (w ≤ notes_of h)

@@ -1,9 +1,12 @@
 pub mod Closing
 pub mod Due
 pub mod Functions
+pub mod Growing
+pub mod Knowing
 pub mod LeaderLane
 pub mod Locking
 pub mod Losing
+pub mod Losses
 pub mod Progress
 pub mod Pushes
 pub mod Requests

@@ -1,10 +1,10 @@
 -- Requests: what was sent, pushed and committed.
-use Rattle.std.specs.Prelude.{◌≡◌, ℕ, ◌≤◌, ◌++◌, Bool, true, false, List, [], ◌∷◌, Option, Some, None}
+use Rattle.std.specs.Prelude.{◌≡◌, ℕ, ◌≤◌, ◌++◌, true, List, Some}
 use Rattle.fk_tree.specs.declared.applied.Applied.{Applied}
 use Rattle.fk_tree.specs.declared.request.Request.{Request}
 use Rattle.fk_print.specs.declared.entry.Entry.{Entry}
 use Rattle.fk_spec.specs.Plan.{Plan}
-use Rattle.fk_spec.specs.Start.{Origin, Pushed, sends_of, origin_of, request_of, pushed_of}
+use Rattle.fk_spec.specs.Start.{sends_of, request_of, pushed_of}
 use Rattle.fk_spec.specs.Settling.{is_committed}
 use Rattle.fk_spec.specs.Stored.{committed_as}
 use Rattle.fk_spec.specs.Next.{IsHistory}

@@ -1,7 +1,6 @@
 -- Requests of a session are settled one after another, each once.
-use Rattle.std.specs.Prelude.{◌≡◌, ℕ, ◌+◌, ◌<◌, ◌≤◌, ◌++◌, Bool, true, false, List, [], ◌∷◌, Option, Some, None}
+use Rattle.std.specs.Prelude.{◌≡◌, ℕ, ◌+◌, ◌≤◌, ◌++◌, true, false, List, ◌∷◌, Some}
 use Rattle.fk_print.specs.declared.entry.Entry.{Entry}
-use Rattle.fk_print.specs.declared.op.Op.{Op}
 use Rattle.fk_print.specs.declared.op.Op.TheVariants as op
 use Rattle.fk_spec.specs.Plan.{Plan}
 use Rattle.fk_spec.specs.Start.{Follows, task_of, sends_of}
@@ -11,7 +10,7 @@ use Rattle.fk_spec.specs.Follower.{Follower}
 use Rattle.fk_spec.specs.Function.{Following, place_of}
 use Rattle.fk_spec.specs.Next.{IsHistory}
 use Rattle.fk_law.specs.Due.{IsDue, IsPushOf}
-use Rattle.fk_law.specs.Progress.{Progress, Asks, Works, Replies, Acks, progress}
+use Rattle.fk_law.specs.Progress.{Progress, Works, Replies, Acks, progress}
 
 -- Each message that a follower was started for stands in its session's lane, at most one beyond the
 -- removed ones.

@@ -5,24 +5,61 @@ mod closed_sessions;
 mod commit_order;
 mod due_entries;
 mod functions;
+mod last_commits;
 mod leader_lane;
 mod live_pushes;
 mod locks;
+mod longer_histories;
 mod lost_locks;
 mod pushes;
 mod request_outcomes;
 mod sent_requests;
 mod settlings;
+mod shown_losses;
 
 pub use closed_sessions::{at_work_is_open, closed_has_no_live_push, no_commit_after_close};
-pub use commit_order::{commits_rise_in_a_session, commits_rise_on_a_path, committer_holds_its_paths, one_of_two_commits};
-pub use due_entries::{every_entry_is_due};
-pub use functions::{function_does_its_task, in_flight_are_numbered, started_are_numbered, task_never_changes};
-pub use leader_lane::{commits_are_beyond_the_sweep, done_is_removed_or_one_more, done_were_pushed, leader_stands_where_it_may, leader_works_at_or_below_the_head, mark_behind_sweep, published_are_committed, published_are_swept, published_up_to_the_mark, pushes_below_the_head_are_finished, swept_are_committed, swept_up_to_the_sweep};
+pub use commit_order::{
+    commits_rise_in_a_session, commits_rise_on_a_path, committer_holds_its_paths,
+    one_of_two_commits,
+};
+pub use due_entries::every_entry_is_due;
+pub use functions::{
+    function_does_its_task, in_flight_are_numbered, started_are_numbered, task_never_changes,
+    teller_works_at_or_below_the_head,
+};
+pub use last_commits::{
+    at_work_knows_the_last, commit_is_beyond_the_last, last_is_committed, last_is_the_greatest,
+};
+pub use leader_lane::{
+    commits_are_beyond_the_sweep, done_is_removed_or_one_more, done_were_pushed,
+    leader_stands_where_it_may, leader_works_at_or_below_the_head, mark_behind_sweep,
+    published_are_committed, published_are_swept, published_up_to_the_mark,
+    pushes_below_the_head_are_finished, swept_are_committed, swept_up_to_the_sweep,
+};
 pub use live_pushes::{committer_is_live, live_commits, push_is_live_dead_or_committed};
-pub use locks::{at_work_is_unreleased, lock_names_a_granted_path, locks_are_followers, loss_is_after_expiry, overtaken_only_after_expiry, push_releases_at_its_commit, released_is_settled};
-pub use lost_locks::{dead_push_never_commits, dead_stays_dead, lock_miss_is_dead, overtaken_push_never_commits, settled_miss_is_over};
-pub use pushes::{committer_commits_a_push, each_number_is_a_push, one_push_for_each_function, push_is_of_a_request, push_never_changes, pushes_are_numbered};
-pub use request_outcomes::{applied_is_committed, one_commit_for_each_request, outcome_is_of_a_settled, outcome_never_changes, settled_have_an_outcome};
-pub use sent_requests::{committed_is_filled, committed_never_changes, filled_is_committed, push_asks_for_its_request, pushed_never_changes, request_never_changes, request_was_sent, sent_has_a_request};
-pub use settlings::{answered_is_settled, at_work_is_unpushed, commits_once, committed_is_settled, message_is_reached, settled_is_removed_or_one_more, settled_were_sent, settles_the_next};
+pub use locks::{
+    at_work_is_unreleased, lock_names_a_granted_path, locks_are_followers, loss_is_after_expiry,
+    overtaken_only_after_expiry, push_releases_at_its_commit, released_is_settled,
+};
+pub use longer_histories::{committed_stays, numbers_never_fall, published_stays};
+pub use lost_locks::{
+    dead_push_never_commits, dead_stays_dead, lock_miss_is_dead, overtaken_push_never_commits,
+    settled_miss_is_over,
+};
+pub use pushes::{
+    committer_commits_a_push, each_number_is_a_push, one_push_for_each_function,
+    push_is_of_a_request, push_never_changes, pushes_are_numbered,
+};
+pub use request_outcomes::{
+    applied_is_committed, one_commit_for_each_request, outcome_is_of_a_settled,
+    outcome_never_changes, settled_have_an_outcome,
+};
+pub use sent_requests::{
+    committed_is_filled, committed_never_changes, filled_is_committed, push_asks_for_its_request,
+    pushed_never_changes, request_never_changes, request_was_sent, sent_has_a_request,
+};
+pub use settlings::{
+    answered_is_settled, at_work_is_unpushed, commits_once, committed_is_settled,
+    message_is_reached, settled_is_removed_or_one_more, settled_were_sent, settles_the_next,
+};
+pub use shown_losses::{loser_has_found, loss_has_its_lines, lost_has_a_loss, lost_has_its_lines};
