@@ -21,3 +21,13 @@ pub fn committer_holds_its_paths()
 pub fn one_of_two_commits()
     ensures { OneOfTwoCommits }
 {}
+
+/// A law: commits of functions that were granted a common path stand in the order of their numbers,
+/// and each path of the one that commits was granted to its function last.
+pub fn commits_in_order_on_a_path()
+    ensures order { CommitsRiseOnAPath }
+    ensures held { CommitterHoldsItsPaths }
+{
+    commits_rise_on_a_path();
+    committer_holds_its_paths();
+}

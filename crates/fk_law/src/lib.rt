@@ -19,8 +19,8 @@ mod shown_losses;
 
 pub use closed_sessions::{at_work_is_open, closed_has_no_live_push, no_commit_after_close};
 pub use commit_order::{
-    commits_rise_in_a_session, commits_rise_on_a_path, committer_holds_its_paths,
-    one_of_two_commits,
+    commits_in_order_on_a_path, commits_rise_in_a_session, commits_rise_on_a_path,
+    committer_holds_its_paths, one_of_two_commits,
 };
 pub use due_entries::every_entry_is_due;
 pub use functions::{
@@ -60,6 +60,7 @@ pub use sent_requests::{
 };
 pub use settlings::{
     answered_is_settled, at_work_is_unpushed, commits_once, committed_is_settled,
-    message_is_reached, settled_is_removed_or_one_more, settled_were_sent, settles_the_next,
+    message_is_reached, settled_is_removed_or_one_more, settled_once, settled_were_sent,
+    settles_the_next,
 };
 pub use shown_losses::{loser_has_found, loss_has_its_lines, lost_has_a_loss, lost_has_its_lines};

@@ -40,3 +40,14 @@ pub fn committed_is_settled()
 pub fn commits_once()
     ensures { CommitsOnce }
 {}
+
+/// A law: the requests of a session are settled one after another, and no push commits twice.
+pub fn settled_once()
+    ensures next { SettlesTheNext }
+    ensures settled { SettledIsRemovedOrOneMore }
+    ensures once { CommitsOnce }
+{
+    settles_the_next();
+    settled_is_removed_or_one_more();
+    commits_once();
+}
