@@ -36,7 +36,7 @@ same_change_self change.Changed = refl
 same_change_self change.Deleted = refl
 same_change_self change.Child = refl
 
-same_touch_is : (a b : Touch) → same_touch a b ≡ true → a ≡ b
+pub same_touch_is : (a b : Touch) → same_touch a b ≡ true → a ≡ b
 same_touch_is a b e = λ i. record { path = (same_path_is a.path b.path (and_left (same_path a.path b.path) (same_change a.change b.change) e)) i; change = (same_change_is a.change b.change (and_right (same_path a.path b.path) (same_change a.change b.change) e)) i }
 
 same_touch_self : (a : Touch) → same_touch a a ≡ true

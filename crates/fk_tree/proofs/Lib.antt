@@ -1,6 +1,7 @@
 mod Alike
 pub mod Deletes
 mod Gathering
+mod Indexing
 mod Keeping
 mod Listing
 mod Looking

@@ -24,6 +24,7 @@ mod slots;
 #[cfg(test)]
 mod tests;
 mod touch_list;
+mod touch_set;
 mod tree;
 mod writes;
 

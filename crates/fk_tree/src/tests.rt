@@ -3,7 +3,7 @@ ghost use Rattle.fk_tree.specs.Check.{HasFewParts};
 
 use crate::{
     Answer, Change, CheckFault, Edit, Edits, Made, Mades, Part, PartReply, Parts, Query, Replies,
-    Reply, Request, Touch, Touches, Tree, What, touched,
+    Reply, Request, Touch, Touches, Tree, What, effects, touched,
 };
 use fk_base::{Bytes, Names, NoMemory, Path};
 use std::alloc::Global;
@@ -180,5 +180,51 @@ fn copies(alloc: Global) -> Result<bool, NoMemory> {
 #[test]
 fn copies_lists(rt: HostRuntime) -> Result<(), Fail> {
     assert!(rt; copies(rt.alloc())?);
+    Ok(())
+}
+
+/// A node is made with a child, and the child is deleted.
+fn parts(alloc: Global) -> Result<Parts, Fail> {
+    let mut parts = Parts::new(alloc);
+    parts.push(make(alloc, "/a")?)?;
+    parts.push(make(alloc, "/a/b")?)?;
+    parts.push(Part::Delete {
+        path: Path::parse(alloc, "/a/b")?,
+        version: -1,
+    })?;
+    parts.push(Part::Set {
+        path: Path::parse(alloc, "/a")?,
+        bytes: Bytes::new(alloc),
+        version: 0,
+    })?;
+    Ok(parts)
+}
+
+/// What a multi does: its replies, its touches and edits, and the new node's version of its children.
+fn multi(alloc: Global) -> Result<(usize, usize, usize, u32), Fail> {
+    let mut tree = Tree::new(alloc)?;
+    let request = Request::Multi(parts(alloc)?);
+    tree.check(1, &request)?;
+    let applied = tree.fill(1, 11, 1, 1, &request)?;
+    let replies = match tree.apply(&applied)? {
+        Reply::Multi(replies) => replies.as_slice().len(),
+        _ => 0,
+    };
+    let touches = touched(alloc, &applied)?.as_slice().len();
+    let edits = effects(alloc, &applied)?.as_slice().len();
+    let cversion = match tree.ask(&Query::Stat(Path::parse(alloc, "/a")?))? {
+        Answer::Stated(stat) => stat.cversion,
+        _ => 0,
+    };
+    Ok((replies, touches, edits, cversion))
+}
+
+#[test]
+fn applies_a_multi(rt: HostRuntime) -> Result<(), Fail> {
+    let (replies, touches, edits, cversion) = multi(rt.alloc())?;
+    assert_eq!(rt; replies, 4);
+    assert_eq!(rt; touches, 6);
+    assert_eq!(rt; edits, 7);
+    assert_eq!(rt; cversion, 2);
     Ok(())
 }

@@ -1,13 +1,14 @@
 //! The paths that an applied request changes, and how.
 
-ghost use Rattle.std.specs.Prelude.{◌≡◌, IfOk, OnOk};
+ghost use Rattle.std.specs.Prelude.{◌≡◌, [], ◌∷◌, IfOk, OnOk};
 ghost use Rattle.fk_tree.specs.Touch.{deletes_touches, part_touches, parts_touches, touches, touches_of, with_parent_touched};
-ghost use Rattle.fk_tree.specs.Touching.{all_put, is_there, put_one};
+ghost use Rattle.fk_tree.specs.Touching.{AreIndexed, Puts};
 
 use crate::applied::{Applied, Made};
-use crate::change::{Change, Touch};
+use crate::change::Change;
 use crate::lists::Touches;
 use crate::request::{Part, Request};
+use crate::touch_set::TouchSet;
 use fk_base::{NoMemory, Path};
 use std::alloc::Global;
 
@@ -17,87 +18,68 @@ use std::alloc::Global;
 pub fn touched(alloc: Global, applied: &Applied) -> Result<Touches, NoMemory>
     ensures { IfOk result (λ ts. ts ≡ touches applied.now) }
 {
-    let mut touches = Touches::new(alloc);
-    touch_all(&mut touches, applied)?;
-    Ok(touches)
+    let mut set = TouchSet::new(alloc);
+    touch_all(&mut set, applied)?;
+    Ok(set.touches)
 }
 
-fn touch_all(touches: &mut Touches, applied: &Applied) -> Result<(), NoMemory>
-    ensures { OnOk result (touches.new ≡ all_put (touches_of applied.now applied.now.request) touches.old) }
+fn touch_all(set: &mut TouchSet, applied: &Applied) -> Result<(), NoMemory>
+    requires { AreIndexed set.old }
+    ensures { OnOk result (Puts (touches_of applied.now applied.now.request) set.old set.new) }
 {
     match &applied.request {
-        Request::Create { .. } => touch_both(touches, &applied.name, Change::Created),
-        Request::Set { path, .. } => touch(touches, path, Change::Changed),
-        Request::Delete { path, .. } => touch_both(touches, path, Change::Deleted),
-        Request::Close { .. } => touch_deleted(touches, applied.gone.as_slice()),
-        Request::Multi(parts) => { touch_parts(touches, parts.as_slice(), applied.made.as_slice()) }
+        Request::Create { .. } => touch_both(set, &applied.name, Change::Created),
+        Request::Set { path, .. } => set.put(path, Change::Changed),
+        Request::Delete { path, .. } => touch_both(set, path, Change::Deleted),
+        Request::Close { .. } => touch_deleted(set, applied.gone.as_slice()),
+        Request::Multi(parts) => touch_parts(set, parts.as_slice(), applied.made.as_slice()),
     }
-}
-
-// a change that isn't there yet
-fn touch(touches: &mut Touches, path: &Path, change: Change) -> Result<(), NoMemory>
-    ensures { OnOk result (touches.new ≡ put_one (record { path = path.now; change = change }) touches.old) }
-{
-    if is_there(touches.as_slice(), path, change) {
-        return Ok(());
-    }
-    touches.push(Touch {
-        path: path.copy()?,
-        change,
-    })
-}
-
-fn is_there(touches: &[Touch], path: &Path, change: Change) -> bool
-    ensures { result ≡ is_there (record { path = path.now; change = change }) touches.now }
-{
-    'seeking: for touch in touches {
-        if path.same(&touch.path) && change == touch.change {
-            return true;
-        }
-    }
-    false
 }
 
 // the change of a path, and its parent as changed in its children; the root has no parent
-fn touch_both(touches: &mut Touches, path: &Path, change: Change) -> Result<(), NoMemory>
-    ensures { OnOk result (touches.new ≡ all_put (with_parent_touched path.now change) touches.old) }
+fn touch_both(set: &mut TouchSet, path: &Path, change: Change) -> Result<(), NoMemory>
+    requires { AreIndexed set.old }
+    ensures { OnOk result (Puts (with_parent_touched path.now change) set.old set.new) }
 {
-    touch(touches, path, change)?;
+    set.put(path, change)?;
     match path.parent()? {
         None => Ok(()),
-        Some(parent) => touch(touches, &parent, Change::Child),
+        Some(parent) => set.put(&parent, Change::Child),
     }
 }
 
 #[tactic(auto, using(crate::proofs::Gathering::deletes_step))]
-fn touch_deleted(touches: &mut Touches, paths: &[Path]) -> Result<(), NoMemory>
-    ensures { OnOk result (touches.new ≡ all_put (deletes_touches paths.now) touches.old) }
+fn touch_deleted(set: &mut TouchSet, paths: &[Path]) -> Result<(), NoMemory>
+    requires { AreIndexed set.old }
+    ensures { OnOk result (Puts (deletes_touches paths.now) set.old set.new) }
 {
     'deleting: for path in paths {
-        touch_both(touches, path, Change::Deleted)?;
+        touch_both(set, path, Change::Deleted)?;
     }
     Ok(())
 }
 
-fn touch_part(touches: &mut Touches, part: &Part, made: &Made) -> Result<(), NoMemory>
-    ensures { OnOk result (touches.new ≡ all_put (part_touches part.now made.now) touches.old) }
+fn touch_part(set: &mut TouchSet, part: &Part, made: &Made) -> Result<(), NoMemory>
+    requires { AreIndexed set.old }
+    ensures { OnOk result (Puts (part_touches part.now made.now) set.old set.new) }
 {
     match part {
-        Part::Create { .. } => touch_both(touches, &made.name, Change::Created),
-        Part::Set { path, .. } => touch(touches, path, Change::Changed),
-        Part::Delete { path, .. } => touch_both(touches, path, Change::Deleted),
+        Part::Create { .. } => touch_both(set, &made.name, Change::Created),
+        Part::Set { path, .. } => set.put(path, Change::Changed),
+        Part::Delete { path, .. } => touch_both(set, path, Change::Deleted),
     }
 }
 
 #[tactic(auto, using(crate::proofs::Gathering::parts_step, crate::proofs::Gathering::no_parts_left))]
-fn touch_parts(touches: &mut Touches, parts: &[Part], made: &[Made]) -> Result<(), NoMemory>
-    ensures { OnOk result (touches.new ≡ all_put (parts_touches parts.now made.now) touches.old) }
+fn touch_parts(set: &mut TouchSet, parts: &[Part], made: &[Made]) -> Result<(), NoMemory>
+    requires { AreIndexed set.old }
+    ensures { OnOk result (Puts (parts_touches parts.now made.now) set.old set.new) }
 {
     'making: for (place, part) in parts.iter().enumerate() {
         let Some(made) = made.get(place) else {
             return Ok(());
         };
-        touch_part(touches, part, made)?;
+        touch_part(set, part, made)?;
     }
     Ok(())
 }
