@@ -134,7 +134,7 @@ fn commit<T: Table>(table: &mut T, change: Edit) -> Result<Option<Transact>, NoM
             tx: 7,
             moment: 5,
         },
-        Write::AddPending { session: 1, tx: 7 },
+        Write::AddPending { session: 1, tx: 7 }.copy()?,
         Write::Settle {
             session: 1,
             k: 1,
