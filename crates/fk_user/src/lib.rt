@@ -1,0 +1,12 @@
+//! The user storage: what clients read without a lock. A record for each path, with its node and the
+//! transaction that it stands at, and a mark with the epoch of the last publication.
+#![tactic(auto)]
+
+mod answer;
+mod id_set;
+mod records;
+mod user_store;
+
+pub use answer::{Publish, PutRecord, UserLook, UserRead};
+pub use id_set::IdSet;
+pub use user_store::UserStore;
