@@ -3,7 +3,7 @@ use Rattle.fk_queue.specs.declared.post.Post.{Post}
 use Rattle.fk_queue.specs.Meaning.{Meaning}
 use Rattle.fk_queue.specs.Places.{lanes_of}
 
-abbrev pub post_of : Post → Meaning
+unfoldable pub post_of : Post → Meaning
 post_of p = record {
   sessions = p.sessions;
   lanes = λ l. lanes_of p.sessions p.queues.items l;

@@ -35,6 +35,7 @@ impl Post {
     ghost use Rattle.fk_queue.specs.Posts.{post_of};
 
     // whether this call fails
+    #[tactic(auto, unfolding(crate::specs::Posts::post_of))]
     fn fails(&mut self) -> bool
         ensures answer { result ≡ (post_of self.old).armed }
         ensures after { post_of self.new ≡ called (post_of self.old) }
@@ -49,6 +50,7 @@ impl Post {
     }
 
     // the queue of a lane
+    #[tactic(auto, unfolding(crate::specs::Posts::post_of))]
     fn lane(&self, lane: Lane) -> &Queue
         requires { has_lane (post_of self.now) lane ≡ true }
         ensures { result.now ≡ (post_of self.now).lanes lane }
@@ -57,6 +59,7 @@ impl Post {
     }
 
     // adds a message at the end of a lane, and gives its number
+    #[tactic(auto, unfolding(crate::specs::Posts::post_of))]
     fn add(&mut self, lane: Lane, message: &[u8]) -> Result<u64, NoMemory>
         requires lane { has_lane (post_of self.old) lane ≡ true }
         requires room { ((post_of self.old).lanes lane).given < 2 ^ 63 - 1 }
@@ -73,6 +76,7 @@ impl Post {
     }
 
     // removes a lane's head
+    #[tactic(auto, unfolding(crate::specs::Posts::post_of))]
     fn remove(&mut self, lane: Lane)
         requires lane { has_lane (post_of self.old) lane ≡ true }
         requires head { is_some (head_number ((post_of self.old).lanes lane)) ≡ true }
@@ -102,6 +106,7 @@ impl Post {
     ghost use Rattle.fk_queue.specs.Posts.{post_of};
 
     /// A new post for sessions 1 to `sessions`: all lanes are empty, and it is calm.
+    #[tactic(auto, unfolding(crate::specs::Posts::post_of))]
     pub fn new(alloc: Global, sessions: u32) -> Result<Post, NoMemory>
         ensures { IfOk result (λ p. post_of p ≡ new_post sessions) }
     {
@@ -176,6 +181,7 @@ impl Post {
     }
 
     /// How many messages wait in all lanes.
+    #[tactic(auto, unfolding(crate::specs::Posts::post_of))]
     pub fn waiting(&self) -> u64
         ensures { result ≡ waiting_in (post_of self.now) }
     {
@@ -183,6 +189,7 @@ impl Post {
     }
 
     /// The next call that may fail does.
+    #[tactic(auto, unfolding(crate::specs::Posts::post_of))]
     pub fn arm(&mut self)
         ensures { post_of self.new ≡ armed (post_of self.old) }
     {
@@ -190,6 +197,7 @@ impl Post {
     }
 
     /// The next call doesn't fail.
+    #[tactic(auto, unfolding(crate::specs::Posts::post_of))]
     pub fn calm(&mut self)
         ensures { post_of self.new ≡ calmed (post_of self.old) }
     {
@@ -197,6 +205,7 @@ impl Post {
     }
 
     /// How often a call failed.
+    #[tactic(auto, unfolding(crate::specs::Posts::post_of))]
     pub fn faults(&self) -> u64
         ensures { result ≡ (post_of self.now).faults }
     {
@@ -204,6 +213,7 @@ impl Post {
     }
 
     /// In each lane the numbers of the messages are consecutive, and the last one is the lane's count.
+    #[tactic(auto, unfolding(crate::specs::Posts::post_of))]
     pub fn numbered(&self)
         ensures { (l : Lane) → IsNumbered ((post_of self.now).lanes l) }
     {}

@@ -1,6 +1,6 @@
 //! One lane.
 
-ghost use Rattle.std.specs.Prelude.{◌≡◌, ◌+◌, ◌-◌, ◌^◌, ◌<◌, true, is_some, length, replicate, IfOk, OnOk, OnErr};
+ghost use Rattle.std.specs.Prelude.{◌≡◌, ◌+◌, ◌-◌, ◌^◌, ◌<◌, true, is_some, replicate, IfOk, OnOk, OnErr};
 ghost use Rattle.fk_queue.specs.Letters.{empty_lane, head_bytes, head_number, with_letter, without_head};
 
 use crate::letter::Letter;

@@ -1,4 +1,4 @@
-use Rattle.std.proofs.Common.{◌≡◌, ◌+◌, List, sym, ◌∙◌, ap, subst, refl}
+use Rattle.std.proofs.Common.{◌+◌, sym, ◌∙◌, ap, subst}
 use Rattle.fk_queue.specs.declared.lane.Lane.{Lane}
 use Rattle.fk_queue.specs.Letters.{IsNumbered, LaneState, with_letter}
 use Rattle.fk_queue.specs.Meaning.{waiting_among}
@@ -10,6 +10,7 @@ use Rattle.fk_queue.proofs.Standing.{placed, wrote_lane}
 use Rattle.fk_queue.proofs.post.Post.add.Goals as goal
 
 pub invariant_of-self-2-clause-counted : goal.invariant_of-self-2-clause-counted
+unfolding post_of
 invariant_of-self-2-clause-counted c =
     let old = c.args.self.now in
     let lane = lanes_of old.sessions old.queues.items c.args.lane in
@@ -20,6 +21,7 @@ invariant_of-self-2-clause-counted c =
     ∙ sym (ap (waiting_among old.sessions) lanes)
 
 pub invariant_of-self-2-clause-numbered : goal.invariant_of-self-2-clause-numbered
+unfolding post_of
 invariant_of-self-2-clause-numbered c =
     let old = c.args.self.now in
     let lane = lanes_of old.sessions old.queues.items c.args.lane in
@@ -29,6 +31,7 @@ invariant_of-self-2-clause-numbered c =
     subst Numbered (sym lanes) (numbered_write c.args.lane (with_letter c.args.message.now lane) (lanes_of old.sessions old.queues.items) old.numbered (numbered_more c.args.message.now lane (old.numbered c.args.lane)))
 
 pub returns-clause-ok : goal.returns-clause-ok
+unfolding post_of
 returns-clause-ok c =
     let old = c.args.self.now in
     let lane = lanes_of old.sessions old.queues.items c.args.lane in

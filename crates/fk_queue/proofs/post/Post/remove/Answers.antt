@@ -1,4 +1,4 @@
-use Rattle.std.proofs.Common.{◌≡◌, ℕ, ◌+◌, ◌-◌, List, sym, ◌∙◌, ap, subst, refl, arith}
+use Rattle.std.proofs.Common.{◌≡◌, ℕ, ◌+◌, ◌-◌, sym, ◌∙◌, ap, subst, arith}
 use Rattle.fk_queue.specs.declared.lane.Lane.{Lane}
 use Rattle.fk_queue.specs.Letters.{IsNumbered, LaneState, without_head}
 use Rattle.fk_queue.specs.Meaning.{waiting_among}
@@ -10,6 +10,7 @@ use Rattle.fk_queue.proofs.Standing.{placed, wrote_lane}
 use Rattle.fk_queue.proofs.post.Post.remove.Goals as goal
 
 pub overflow_sub-self : goal.overflow_sub-self
+unfolding post_of
 overflow_sub-self c =
     let old = c.args.self.now in
     omega (arith, old.counted, ack_takes_one old.sessions (lanes_of old.sessions old.queues.items) c.args.lane c.requires.lane c.requires.head)
@@ -18,6 +19,7 @@ one_less : (w before after : ℕ) → w ≡ before → before ≡ after + 1 → 
 one_less w before after a b = omega arith
 
 pub invariant_of-self-clause-counted : goal.invariant_of-self-clause-counted
+unfolding post_of
 invariant_of-self-clause-counted c =
     let old = c.args.self.now in
     let lane = lanes_of old.sessions old.queues.items c.args.lane in
@@ -27,6 +29,7 @@ invariant_of-self-clause-counted c =
     ∙ sym (ap (waiting_among old.sessions) lanes)
 
 pub invariant_of-self-clause-numbered : goal.invariant_of-self-clause-numbered
+unfolding post_of
 invariant_of-self-clause-numbered c =
     let old = c.args.self.now in
     let lane = lanes_of old.sessions old.queues.items c.args.lane in
@@ -36,6 +39,7 @@ invariant_of-self-clause-numbered c =
     subst Numbered (sym lanes) (numbered_write c.args.lane (without_head lane) (lanes_of old.sessions old.queues.items) old.numbered (numbered_less lane (old.numbered c.args.lane)))
 
 pub returns : goal.returns
+unfolding post_of
 returns c =
     let old = c.args.self.now in
     let lane = lanes_of old.sessions old.queues.items c.args.lane in
