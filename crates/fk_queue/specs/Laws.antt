@@ -1,0 +1,24 @@
+-- Laws of what a post means.
+use Rattle.std.specs.Prelude.{◌≡◌, ℕ, ◌+◌, true, List, [], is_some}
+use Rattle.fk_queue.specs.declared.lane.Lane.{Lane}
+use Rattle.fk_queue.specs.Lanes.{same_lane}
+use Rattle.fk_queue.specs.Letters.{head_number}
+use Rattle.fk_queue.specs.Meaning.{Meaning, has_lane, popped, pushed, waiting_in}
+
+-- The test for the same lane is true exactly where the lanes are equal.
+abbrev pub SameLaneIsEqual : Type 0
+SameLaneIsEqual = ((p q : Lane) → same_lane p q ≡ true → p ≡ q) × ((l : Lane) → same_lane l l ≡ true)
+
+-- A push makes one message more wait.
+abbrev pub PushAddsOne : Type 0
+PushAddsOne = (m : Meaning) (l : Lane) (bytes : List ℕ) → has_lane m l ≡ true → waiting_in (pushed l bytes m) ≡ waiting_in m + 1
+
+-- Where a lane loses its head, one message less waits.
+abbrev pub AckTakesOne : Type 0
+AckTakesOne = (m : Meaning) (l : Lane) → has_lane m l ≡ true → is_some (head_number (m.lanes l)) ≡ true → waiting_in m ≡ waiting_in (popped l m) + 1
+
+-- No message waits exactly where each lane is empty.
+abbrev pub NoneWaitsWhereEmpty : Type 0
+NoneWaitsWhereEmpty = (m : Meaning)
+    → ((l : Lane) → has_lane m l ≡ true → waiting_in m ≡ 0 → (m.lanes l).waiting ≡ [])
+    × (((l : Lane) → has_lane m l ≡ true → (m.lanes l).waiting ≡ []) → waiting_in m ≡ 0)

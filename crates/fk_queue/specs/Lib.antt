@@ -1,0 +1,7 @@
+pub mod Answers
+pub mod Lanes
+pub mod Laws
+pub mod Letters
+pub mod Meaning
+pub mod Places
+pub mod Posts

@@ -1,0 +1,63 @@
+-- What a post means: the state of each lane; whether the next call fails, and how often one failed.
+use Rattle.std.specs.Prelude.{ℕ, zero, suc, ◌+◌, Bool, true, false, if◌then◌else◌, List, length}
+use Rattle.fk_base.specs.Faults.{one_more}
+use Rattle.fk_queue.specs.declared.lane.Lane.{Lane}
+use Rattle.fk_queue.specs.declared.lane.Lane.TheVariants as lane
+use Rattle.fk_queue.specs.Lanes.{is_lane, same_lane}
+use Rattle.fk_queue.specs.Letters.{LaneState, empty_lane, with_letter, without_head}
+
+-- The lanes of no session are empty ones.
+pub record Meaning : Type 0 where
+  pub sessions : ℕ
+  pub lanes : Lane → LaneState
+  pub armed : Bool
+  pub faults : ℕ
+
+-- whether the lane is one of an existing session, or one that every post has
+abbrev pub has_lane : Meaning → Lane → Bool
+has_lane m l = is_lane m.sessions l
+
+-- A new post has an empty lane for the leader and for watches, and two for each session.
+abbrev pub new_post : ℕ → Meaning
+new_post sessions = record { sessions = sessions; lanes = λ l. empty_lane; armed = false; faults = 0 }
+
+-- the lanes, with this state in one of them
+abbrev pub with_lane : Lane → LaneState → (Lane → LaneState) → Lane → LaneState
+with_lane l s lanes q = if same_lane q l then s else lanes q
+
+-- the message stands at the end of the lane
+abbrev pub pushed : Lane → List ℕ → Meaning → Meaning
+pushed l bytes m = record m { lanes = with_lane l (with_letter bytes (m.lanes l)) m.lanes }
+
+-- the lane lost its head
+abbrev pub popped : Lane → Meaning → Meaning
+popped l m = record m { lanes = with_lane l (without_head (m.lanes l)) m.lanes }
+
+-- the next call fails
+abbrev pub armed : Meaning → Meaning
+armed m = record m { armed = true }
+
+-- the next call doesn't fail
+abbrev pub calmed : Meaning → Meaning
+calmed m = record m { armed = false }
+
+-- A call that may fail does so exactly where the post is armed. It then raises the count of faults, calms
+-- the post and changes nothing else.
+abbrev pub called : Meaning → Meaning
+called m = record m { armed = false; faults = if m.armed then one_more m.faults else m.faults }
+
+-- the sum of f 1 up to f n
+abbrev pub sum_to : ℕ → (ℕ → ℕ) → ℕ
+sum_to zero f = 0
+sum_to (suc n) f = sum_to n f + f (suc n)
+
+abbrev pub length_of : LaneState → ℕ
+length_of s = length s.waiting
+
+-- how many messages wait in the lanes of so many sessions and those that every post has
+abbrev pub waiting_among : ℕ → (Lane → LaneState) → ℕ
+waiting_among sessions lanes = length_of (lanes lane.Leader) + length_of (lanes lane.Watch) + sum_to sessions (λ s. length_of (lanes (lane.Session s)) + length_of (lanes (lane.Inbox s)))
+
+-- how many messages wait in all lanes
+abbrev pub waiting_in : Meaning → ℕ
+waiting_in m = waiting_among m.sessions m.lanes

@@ -1,0 +1,23 @@
+//! Laws of what a post means. Each function does nothing; its contract is the law.
+
+ghost use Rattle.fk_queue.specs.Laws.{AckTakesOne, NoneWaitsWhereEmpty, PushAddsOne, SameLaneIsEqual};
+
+/// A law: the test for the same lane is exact.
+pub fn same_lane_is_equal()
+    ensures { SameLaneIsEqual }
+{}
+
+/// A law: a push makes one message more wait.
+pub fn push_adds_one()
+    ensures { PushAddsOne }
+{}
+
+/// A law: where a lane loses its head, one message less waits.
+pub fn ack_takes_one()
+    ensures { AckTakesOne }
+{}
+
+/// A law: no message waits exactly where each lane is empty.
+pub fn none_waits_where_empty()
+    ensures { NoneWaitsWhereEmpty }
+{}

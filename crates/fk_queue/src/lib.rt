@@ -1,0 +1,18 @@
+//! The post: the FIFO queues of the service, which it calls lanes. There is one for the leader, one for
+//! watches, and for each session one for its requests and an inbox. A lane numbers its messages from 1
+//! in the order of their pushes, shows only its head, and removes only its head.
+#![tactic(auto)]
+
+mod answer;
+mod lane;
+mod laws;
+mod letter;
+mod post;
+mod queue;
+#[cfg(test)]
+mod tests;
+
+pub use answer::{Ack, Posted};
+pub use lane::Lane;
+pub use laws::{ack_takes_one, none_waits_where_empty, push_adds_one, same_lane_is_equal};
+pub use post::Post;
