@@ -5,6 +5,9 @@
 mod fault;
 mod fired;
 mod message;
+mod reading;
+mod version;
+mod writing;
 
 pub use fault::WireFault;
 pub use fired::{Fired, FiredList};
