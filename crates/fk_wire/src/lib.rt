@@ -5,6 +5,7 @@
 mod fault;
 mod fired;
 mod message;
+mod op;
 mod reading;
 mod version;
 mod writing;
