@@ -11,7 +11,9 @@ use Rattle.serde_json.specs.Find.{as_i64, of_integer}
 use Rattle.serde_json.specs.View.{items_of}
 use Rattle.fk_base.specs.Path.{PathNames, are_names, path_of, path_text}
 use Rattle.fk_base.proofs.PathTexts.{reads_its_text, text_reads_back}
-use Rattle.fk_wire.specs.Json.{below, bytes_data, expected, items_onto, path_data, path_from}
+use Rattle.fk_wire.specs.Json.{below, bytes_data, expected, items_onto, path_data, path_from, version_number, version_of}
+use Rattle.fk_wire.specs.declared.version.Version.{Version}
+use Rattle.fk_wire.specs.declared.version.Version.TheVariants as version
 use Rattle.fk_wire.specs.Limits.{IsData, IsExpected, IsPath}
 use Rattle.fk_wire.proofs.Fit.{IsFit, IsFitNumber, AreFitItems}
 
@@ -65,3 +67,15 @@ pub items_fit : {A : Type 0} (n : ℕ) (value : A → Data) (P : A → Type 0) �
     → (xs : List A) → AllByRecursion P xs → AreFitItems n (items_of (map value xs))
 items_fit n value P fit [] h = tt
 items_fit n value P fit (x ∷ xs) h = (fit x h.0, items_fit n value P fit xs h.1)
+
+pub number_fit : (n : ℕ) → n < 2 ^ 63 → n < 2 ^ 64
+number_fit n h = omega arith
+
+pub version_fit : (v : Version) → version_number v < 2 ^ 64
+version_fit version.One = omega arith
+version_fit version.Two = omega arith
+
+-- the version of an object whose other fields are these
+pub version_back : (v : Version) → option_and_then version_of (below (2 ^ 63) (version_number v)) ≡ Some v
+version_back version.One = refl
+version_back version.Two = refl

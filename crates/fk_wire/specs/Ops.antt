@@ -1,5 +1,5 @@
 -- The value of a request in a message.
-use Rattle.std.specs.Prelude.{◌≡◌, ℕ, ◌&&◌, nat_lt, if◌then◌else◌, ℤ, Bool, false, ⊤, List, [], codes, length, Option, Some, None, option_and_then, option_map}
+use Rattle.std.specs.Prelude.{ℕ, ◌&&◌, nat_lt, if◌then◌else◌, ℤ, Bool, false, ⊤, List, codes, length, Option, Some, None, option_and_then, option_map}
 use Rattle.std.specs.Str.{bytes_eq}
 use Rattle.serde_json.specs.Data.{Data, boolean, member, no_members, object, string}
 use Rattle.fk_base.specs.Path.{PathNames}

@@ -7,9 +7,11 @@ mod fired;
 mod message;
 mod op;
 mod reading;
+mod sent;
 mod version;
 mod writing;
 
 pub use fault::WireFault;
 pub use fired::{Fired, FiredList};
 pub use message::{Note, Pushed, Sent, Tell};
+pub use sent::{decode_send, encode_send, one_sent};
