@@ -1,0 +1,4 @@
+pub mod Json
+pub mod Limits
+pub mod Ops
+pub mod SentText

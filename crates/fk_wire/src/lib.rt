@@ -1,0 +1,17 @@
+//! The messages of the queues and their texts, canonical JSON: each message has one text in each
+//! version, and no text is that of two messages. The texts stand in `specs/`.
+#![tactic(auto)]
+
+mod fault;
+mod fired;
+mod message;
+mod op;
+mod reading;
+mod sent;
+mod version;
+mod writing;
+
+pub use fault::WireFault;
+pub use fired::{Fired, FiredList};
+pub use message::{Note, Pushed, Sent, Tell};
+pub use sent::{decode_send, encode_send, one_sent};
