@@ -4,11 +4,13 @@
 
 mod fault;
 mod fired;
+mod mades;
 mod message;
 mod op;
 mod reading;
 mod sent;
 mod version;
+mod watches;
 mod writing;
 
 pub use fault::WireFault;
