@@ -84,7 +84,8 @@ fn fired_value(alloc: Global, fired: &Fired) -> Result<Value, NoMemory>
     let change = change_word(fired.change);
     let id = fired.id;
     let session = fired.session;
-    let value = json!(in alloc; {"client": session, "id": id, "kind": kind, "path": path, "type": change})?;
+    let value =
+        json!(in alloc; {"client": session, "id": id, "kind": kind, "path": path, "type": change})?;
     Ok(value)
 }
 
@@ -132,7 +133,11 @@ pub(crate) fn fired_from(alloc: Global, value: &Value) -> Result<Option<Fired>, 
 }
 
 /// The watches at a key.
-pub(crate) fn fired_list_at(alloc: Global, value: &Value, key: &str) -> Result<Option<FiredList>, NoMemory>
+pub(crate) fn fired_list_at(
+    alloc: Global,
+    value: &Value,
+    key: &str,
+) -> Result<Option<FiredList>, NoMemory>
     ensures list { IfOk result (λ o. o ≡ fired_list_at key.now (view value.now)) }
     ensures limits { IfOk result (λ o. IfSome o AreLimitedFired) }
     ensures typed { IfOk result (λ o. IfSome o AreTypedFired) }
