@@ -65,6 +65,15 @@ fieldless {A} {is_message} {can_say} {value} {from} r bytes d v is version none 
     let there : from v d ≡ Some m = ap (from v) same ∙ ap (λ w. from w (value h.1.0 m)) one ∙ r.back h.1.0 m h.0 h.1.1 in
     cc
 
+-- the fields that were read are those of the message
+pub only_message : {A : Type 0} {is_message : A → Type 0} {can_say : Version → A → Type 0} {value : Version → A → Data} {from : Version → Data → Option A}
+    → ReadsBack is_message can_say value from → (bytes : List ℕ) (d : Data) (v : Version) (p : A) → read bytes ≡ Some d → version_from d ≡ Some v → from v d ≡ Some p
+    → (m : A) → IsTextOf is_message can_say value bytes m → p ≡ m
+only_message {A} {is_message} {can_say} {value} {from} r bytes d v p is version fields m h =
+    let same : d ≡ value h.1.0 m = some_same _ _ (sym is ∙ known r bytes m h) in
+    let one : v ≡ h.1.0 = some_same _ _ (sym version ∙ ap version_from same ∙ r.version h.1.0 m) in
+    some_same _ _ (sym fields ∙ ap (from v) same ∙ ap (λ w. from w (value h.1.0 m)) one ∙ r.back h.1.0 m h.0 h.1.1)
+
 -- nor is what isn't written for its fields
 pub other_text : {A : Type 0} {is_message : A → Type 0} {can_say : Version → A → Type 0} {value : Version → A → Data} {from : Version → Data → Option A}
     → ReadsBack is_message can_say value from → (bytes : List ℕ) (d : Data) (v : Version) (p : A) → read bytes ≡ Some d → version_from d ≡ Some v → from v d ≡ Some p
@@ -73,6 +82,5 @@ pub other_text : {A : Type 0} {is_message : A → Type 0} {can_say : Version →
 other_text {A} {is_message} {can_say} {value} {from} r bytes d v p is version fields differ m h =
     let same : d ≡ value h.1.0 m = some_same _ _ (sym is ∙ known r bytes m h) in
     let one : v ≡ h.1.0 = some_same _ _ (sym version ∙ ap version_from same ∙ r.version h.1.0 m) in
-    let there : from v d ≡ Some m = ap (from v) same ∙ ap (λ w. from w (value h.1.0 m)) one ∙ r.back h.1.0 m h.0 h.1.1 in
-    let message : p ≡ m = some_same _ _ (sym fields ∙ there) in
+    let message : p ≡ m = only_message r bytes d v p is version fields m h in
     differ (ap (λ x. compact_text (value v x)) message ∙ ap (λ w. compact_text (value w m)) one ∙ sym h.1.2)

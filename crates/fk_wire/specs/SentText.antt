@@ -8,15 +8,14 @@ use Rattle.fk_wire.specs.Limits.{IsLimitedRequest, IsNumber, IsTypedRequest}
 use Rattle.fk_wire.specs.Ops.{CanSayRequest, request_data, request_from}
 use Rattle.fk_wire.specs.declared.message.Sent.{Sent}
 use Rattle.fk_wire.specs.declared.version.Version.{Version}
-use Rattle.fk_wire.specs.declared.version.Version.TheVariants as version
 
 -- the value in this version
 abbrev pub sent_data : Version → Sent → Data
 sent_data v m = object (member (codes "op") (request_data m.request) (member (codes "seen") (number_data m.seen) (member (codes "v") (version_data v) no_members)))
 
--- the text in the version that is written, the second
-abbrev pub sent_text : Sent → List ℕ
-sent_text m = compact_text (sent_data version.Two m)
+-- its text
+abbrev pub sent_text : Version → Sent → List ℕ
+sent_text v m = compact_text (sent_data v m)
 
 -- the limits of the message
 abbrev pub IsLimitedSent : Sent → Type 0

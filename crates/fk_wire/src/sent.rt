@@ -4,6 +4,7 @@ ghost use Rattle.std.specs.Prelude.{◌≡◌, Err, IfOk, IfSome};
 ghost use Rattle.serde_json.specs.View.{view};
 ghost use Rattle.fk_wire.specs.SentText.{CanSaySent, IsLimitedSent, IsSent, IsSentText, IsTypedSent, OneSent, sent_data, sent_from, sent_text};
 ghost use Rattle.fk_wire.specs.declared.message.Sent.{Sent};
+ghost use Rattle.fk_wire.specs.declared.version.Version.TheVariants as version;
 
 use crate::fault::WireFault;
 use crate::message::Sent;
@@ -46,7 +47,7 @@ fn sent_from(alloc: Global, version: Version, value: &Value) -> Result<Option<Se
 /// The text of a message, in the second version.
 pub fn encode_send(alloc: Global, message: &Sent) -> Result<Bytes, NoMemory>
     requires limited { IsLimitedSent message.now }
-    ensures text { IfOk result (λ b. b ≡ sent_text message.now) }
+    ensures text { IfOk result (λ b. b ≡ sent_text version.Two message.now) }
     ensures sent { IfOk result (λ b. IsSent message.now) }
 {
     let value = sent_value(alloc, Version::Two, message)?;
@@ -56,6 +57,7 @@ pub fn encode_send(alloc: Global, message: &Sent) -> Result<Bytes, NoMemory>
 /// The message of a text, in either version.
 pub fn decode_send(alloc: Global, bytes: &[u8]) -> Result<Sent, WireFault>
     ensures message { IfOk result (IsSentText bytes.now) }
+    ensures back { (m : Sent) → IsSentText bytes.now m → IfOk result (λ n. n ≡ m) }
     ensures malformed { result ≡ Err WireFault.Malformed → (m : Sent) → ¬ (IsSentText bytes.now m) }
 {
     let Some(value) = value_of(alloc, bytes)? else {

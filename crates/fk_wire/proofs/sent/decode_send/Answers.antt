@@ -1,7 +1,7 @@
 use Rattle.std.proofs.Common.{ap, sym, ◌∙◌, true≢false}
 use Rattle.serde_json.specs.Written.{compact_text}
 use Rattle.fk_wire.proofs.Sents.{sents}
-use Rattle.fk_wire.proofs.Texts.{fieldless, float_free, other_text, refused, versionless}
+use Rattle.fk_wire.proofs.Texts.{fieldless, float_free, only_message, other_text, refused, versionless}
 use Rattle.fk_wire.proofs.sent.decode_send.Goals as goal
 
 pub returns-in_default-clause-malformed : goal.returns-in_default-clause-malformed
@@ -26,3 +26,8 @@ returns-clause-malformed c e =
     other_text sents _ _ _ _ (rw c.in-Some.is at c.in_ok-value.ensures.some) (sym c.in-Some-version_from.ensures)
     (sym c.in_ok-message.ensures.message ∙ c.in-Some-2.is)
     (λ same. true≢false (sym (c.is_same.ensures.1 (c.as_slice.ensures ∙ (c.in_ok-text.ensures ∙ (ap compact_text c.in_ok-again.ensures.value ∙ same)))) ∙ c.if-is_same.false))
+
+pub returns-then-is_same-clause-back : goal.returns-then-is_same-clause-back
+returns-then-is_same-clause-back c =
+    only_message sents _ _ _ _ (rw c.in-Some.is at c.in_ok-value.ensures.some) (sym c.in-Some-version_from.ensures)
+    (sym c.in_ok-message.ensures.message ∙ c.in-Some-2.is)
