@@ -9,7 +9,8 @@ use Rattle.fk_print.specs.declared.op.Op.TheVariants as op
 use Rattle.fk_spec.specs.Plan.{Plan}
 use Rattle.fk_spec.specs.Start.{Follows, Push, Pushed, pushed_of, pushed_by, pushed_for, pushed_request, request_of, clock_of, task_of, push_of, push_here, pushed_in, or_else}
 use Rattle.fk_spec.specs.Settling.{settled_in, settled_of, count_settling}
-use Rattle.fk_spec.specs.Stored.{view_after, with_filled, committed_in, committed_of, stored_view}
+use Rattle.fk_tree.specs.Edit.{view_after}
+use Rattle.fk_spec.specs.Stored.{with_filled, committed_in, committed_of, stored_view}
 use Rattle.fk_spec.specs.Follower.{Follower}
 use Rattle.fk_spec.specs.Function.{Following, place_of, actor}
 use Rattle.fk_spec.specs.Next.{IsHistory}

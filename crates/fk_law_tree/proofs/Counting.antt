@@ -4,13 +4,13 @@ use Rattle.std.proofs.lemmas.Bool.{false≢true}
 use Rattle.std.proofs.lemmas.Bool.Decides.{nat_tests}
 use Rattle.fk_base.specs.Path.{PathNames, same_path}
 use Rattle.fk_tree.specs.Sorted.{has_path}
-use Rattle.fk_tree.specs.Edit.{edit, edited, effects}
+use Rattle.fk_tree.specs.Edit.{edit, edited, effects, view_after}
 use Rattle.fk_tree.specs.Touch.{edit_paths, edited_paths, edits_at}
 use Rattle.fk_tree.specs.declared.edit.Edit.{Edit}
 use Rattle.fk_tree.specs.declared.node.Node.{Node}
 use Rattle.fk_tree.specs.View.{start_view}
 use Rattle.fk_tree.proofs.Order.{by_test}
-use Rattle.fk_law_tree.specs.Editors.{view_after, editors, OnlyItsEditsCount, UneditedStays, OnlyEditorsCount, SameEditors, is_edited, OwnedWasEdited}
+use Rattle.fk_law_tree.specs.Editors.{editors, OnlyItsEditsCount, UneditedStays, OnlyEditorsCount, SameEditors, is_edited, OwnedWasEdited}
 use Rattle.fk_law_tree.specs.Owners.{is_owned}
 use Rattle.fk_law_tree.proofs.Lists.{ordered_has}
 

@@ -2,18 +2,13 @@
 use Rattle.std.specs.Prelude.{◌≡◌, ◌≢◌, ℕ, Bool, true, false, if◌then◌else◌, ◌||◌, List, [], ◌∷◌, Option}
 use Rattle.fk_base.specs.Path.{PathNames}
 use Rattle.fk_tree.specs.Sorted.{has_path}
-use Rattle.fk_tree.specs.View.{View, start_view}
-use Rattle.fk_tree.specs.Edit.{after, edited}
+use Rattle.fk_tree.specs.View.{View}
+use Rattle.fk_tree.specs.Edit.{after, edited, view_after}
 use Rattle.fk_tree.specs.Touch.{edited_paths, edits_at}
 use Rattle.fk_tree.specs.declared.applied.Applied.{Applied}
 use Rattle.fk_tree.specs.declared.edit.Edit.{Edit}
 use Rattle.fk_tree.specs.declared.node.Node.{Node}
 use Rattle.fk_law_tree.specs.Owners.{is_owned}
-
--- what a view shows after applied requests, the newest first
-abbrev pub view_after : List Applied → View
-view_after [] = start_view
-view_after (a ∷ done) = after (view_after done) a
 
 -- those that edit the path
 abbrev pub editors : PathNames → List Applied → List Applied

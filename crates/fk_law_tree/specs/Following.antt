@@ -3,11 +3,10 @@ use Rattle.std.specs.Prelude.{◌≡◌, List, [], ◌∷◌}
 use Rattle.fk_base.specs.Path.{PathNames}
 use Rattle.fk_tree.specs.Tree.{Tree, start_tree}
 use Rattle.fk_tree.specs.View.{look}
-use Rattle.fk_tree.specs.Edit.{after, edited, effects}
+use Rattle.fk_tree.specs.Edit.{after, edited, effects, view_after}
 use Rattle.fk_tree.specs.Touch.{edits_at}
 use Rattle.fk_tree.specs.Apply.{apply, IsFilled}
 use Rattle.fk_tree.specs.declared.applied.Applied.{Applied}
-use Rattle.fk_law_tree.specs.Editors.{view_after}
 use Rattle.fk_law_tree.specs.Fitting.{Fits}
 use Rattle.fk_law_tree.specs.WellFormed.{IsWellFormed}
 

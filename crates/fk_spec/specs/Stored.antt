@@ -2,8 +2,8 @@
 use Rattle.std.specs.Prelude.{ℕ, ◌==◌, nat_le, Bool, false, if◌then◌else◌, ◌++◌, List, [], ◌∷◌, Option, Some, None, max}
 use Rattle.fk_base.specs.Path.{PathNames, same_path}
 use Rattle.fk_tree.specs.Sorted.{has_path, in_path_order}
-use Rattle.fk_tree.specs.View.{View, start_view}
-use Rattle.fk_tree.specs.Edit.{after}
+use Rattle.fk_tree.specs.View.{View}
+use Rattle.fk_tree.specs.Edit.{view_after}
 use Rattle.fk_tree.specs.Fill.{fill_name, fill_version, fill_made}
 use Rattle.fk_tree.specs.Touch.{edited_paths}
 use Rattle.fk_tree.specs.declared.applied.Applied.{Applied}
@@ -15,11 +15,6 @@ use Rattle.fk_print.specs.declared.op.Op.{Op}
 use Rattle.fk_print.specs.declared.op.Op.TheVariants as op
 use Rattle.fk_spec.specs.Plan.{Plan}
 use Rattle.fk_spec.specs.Start.{Pushed, pushed_of}
-
--- what a view shows after applied requests, the newest first
-abbrev pub view_after : List Applied → View
-view_after [] = start_view
-view_after (a ∷ done) = after (view_after done) a
 
 -- every path that was edited, in path order
 abbrev pub all_edited : List Applied → List PathNames

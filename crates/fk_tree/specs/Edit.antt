@@ -3,7 +3,7 @@ use Rattle.std.specs.Prelude.{ℕ, ◌==◌, Bool, true, false, if◌then◌else
 use Rattle.fk_base.specs.Path.{PathNames, same_path, parent, last_name, is_root}
 use Rattle.fk_tree.specs.Sorted.{has_name, add_name, drop_name}
 use Rattle.fk_tree.specs.Tree.{with_names, fresh, map_some, up}
-use Rattle.fk_tree.specs.View.{View}
+use Rattle.fk_tree.specs.View.{View, start_view}
 use Rattle.fk_tree.specs.declared.node.Node.{Node}
 use Rattle.fk_tree.specs.declared.applied.Applied.{Applied}
 use Rattle.fk_tree.specs.declared.applied.Made.{Made}
@@ -99,3 +99,8 @@ after_edits v tx moment es = record { node = λ p. edited tx moment p es (v.node
 -- a view after an applied request: its edits are made, and a close closes its session
 abbrev pub after : View → Applied → View
 after v a = record { node = λ p. edited a.tx a.moment p (effects a) (v.node p); closed = λ s. if closes a.request then (a.session == s) || v.closed s else v.closed s }
+
+-- what a view shows after applied requests, the newest first
+abbrev pub view_after : List Applied → View
+view_after [] = start_view
+view_after (a ∷ done) = after (view_after done) a
