@@ -8,7 +8,8 @@ use Rattle.fk_tree.specs.declared.node.Node.{Node}
 use Rattle.fk_tree.proofs.Order.{and_left, and_right, by_test, same_path_is, same_path_self}
 use Rattle.fk_user.specs.declared.records.UserRecord.{UserRecord}
 use Rattle.fk_user.specs.declared.user_store.UserStore.{UserStore}
-use Rattle.fk_user.specs.Meaning.{Meaning, are_on, put_record, with_put}
+use Rattle.fk_user.specs.Meaning.{Meaning, put_record, with_put}
+use Rattle.fk_user.specs.Own.{are_own}
 use Rattle.fk_user.specs.Stored.{or_no_record, record_in, store_of}
 
 abbrev pub Records : Type 0
@@ -30,12 +31,12 @@ updated_record m n k r u q = ap or_no_record (u q) ∙ rw (same_flip k q) (step 
     step false o = refl
 
 -- each edit of a path's own is made
-on_at : (p : PathNames) (es : List Edit) (i : ℕ) (e : Edit) → are_on p es ≡ true → i < length es → same_path p (get_or es i e).path ≡ true
+on_at : (p : PathNames) (es : List Edit) (i : ℕ) (e : Edit) → are_own p es ≡ true → i < length es → same_path p (get_or es i e).path ≡ true
 on_at p [] i e h l = absurd (omega arith)
 on_at p (x ∷ es) zero e h l = and_left _ _ h
 on_at p (x ∷ es) (suc i) e h l = on_at p es i e (and_right _ _ h) (omega arith)
 
-pub edits_step : (tx moment : ℕ) (p : PathNames) (es : List Edit) (i : ℕ) (e : Edit) (o : Option Node) → are_on p es ≡ true → i < length es → e ≡ get_or es i e
+pub edits_step : (tx moment : ℕ) (p : PathNames) (es : List Edit) (i : ℕ) (e : Edit) (o : Option Node) → are_own p es ≡ true → i < length es → e ≡ get_or es i e
     → edited tx moment p (drop i es) o ≡ edited tx moment p (drop (i + 1) es) (edit tx moment e.what o)
 edits_step tx moment p es i e o h l s = step (i + 1) (omega arith)
   where

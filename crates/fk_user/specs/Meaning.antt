@@ -1,6 +1,6 @@
 -- What a user store means: for each path a node or none, with the transaction that it stands at; the mark
 -- and the epoch of the last publication; whether the next call fails, and how often one failed.
-use Rattle.std.specs.Prelude.{ℕ, Bool, true, false, if◌then◌else◌, ◌&&◌, List, [], ◌∷◌, Some, None}
+use Rattle.std.specs.Prelude.{ℕ, Bool, true, false, if◌then◌else◌, List, [], Some, None}
 use Rattle.fk_base.specs.Path.{PathNames, is_root, same_path}
 use Rattle.fk_base.specs.Faults.{one_more}
 use Rattle.fk_tree.specs.Edit.{edited}
@@ -32,11 +32,6 @@ new_store = record {
   armed = false;
   faults = 0;
 }
-
--- each of these edits is one of this path's node
-abbrev pub are_on : PathNames → List Edit → Bool
-are_on p [] = true
-are_on p (e ∷ es) = same_path p e.path && are_on p es
 
 -- the record of a path after edits of its node: the node that they leave, or none, with stamp tx
 abbrev pub put_record : PathNames → ℕ → ℕ → List Edit → UserRecord → UserRecord

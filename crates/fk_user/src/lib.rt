@@ -4,9 +4,13 @@
 
 mod answer;
 mod id_set;
+mod own;
 mod records;
+#[cfg(test)]
+mod tests;
 mod user_store;
 
 pub use answer::{Publish, PutRecord, UserLook, UserRead};
 pub use id_set::IdSet;
+pub use own::own_edits;
 pub use user_store::UserStore;

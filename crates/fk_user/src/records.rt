@@ -3,7 +3,8 @@
 ghost use Rattle.std.specs.Prelude.{◌≡◌, [], ◌∷◌, true, if◌then◌else◌, IfOk, OnOk, OnErr};
 ghost use Rattle.std.specs.Option.{option_copied};
 ghost use Rattle.fk_base.specs.Path.{PathNames, same_path};
-ghost use Rattle.fk_user.specs.Meaning.{are_on, put_record, root_record};
+ghost use Rattle.fk_user.specs.Meaning.{put_record, root_record};
+ghost use Rattle.fk_user.specs.Own.{are_own};
 ghost use Rattle.fk_user.specs.Stored.{record_in};
 
 use fk_base::{Bytes, Names, NoMemory, Path};
@@ -83,7 +84,7 @@ pub fn record_after(
     moment: u64,
     edits: &[Edit],
 ) -> Result<UserRecord, NoMemory>
-    requires { are_on path.now edits.now ≡ true }
+    requires { are_own path.now edits.now ≡ true }
     ensures { IfOk result (λ r. r ≡ put_record path.now tx moment edits.now (record_in records.now path.now)) }
 {
     let mut node = node_copy(records, path)?;

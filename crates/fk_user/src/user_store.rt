@@ -1,6 +1,7 @@
 ghost use Rattle.std.specs.Prelude.{◌≡◌, true, false, IfOk, OnOk, OnErr};
-ghost use Rattle.fk_user.specs.Meaning.{are_on, armed, called, calmed, new_store, published, with_put};
+ghost use Rattle.fk_user.specs.Meaning.{armed, called, calmed, new_store, published, with_put};
 ghost use Rattle.fk_user.specs.Answers.{after_publish, after_put, IsLook, IsPublish, IsPut, IsRead};
+ghost use Rattle.fk_user.specs.Own.{are_own};
 ghost use Rattle.fk_user.specs.Stored.{store_of};
 
 use crate::answer::{Publish, PutRecord, UserLook, UserRead};
@@ -77,7 +78,7 @@ impl UserStore {
     /// Makes all the edits of a path's node, in order, and sets its stamp to `tx`, as one step, where the
     /// stamp is below `tx`. May fail.
     pub fn put(&mut self, path: &Path, tx: u64, moment: u64, edits: &Edits) -> PutRecord
-        requires { are_on path.now edits.now ≡ true }
+        requires { are_own path.now edits.now ≡ true }
         ensures answer { IsPut (store_of self.old) path.now tx result }
         ensures after { store_of self.new ≡ after_put (store_of self.old) path.now tx moment edits.now result }
     {
@@ -152,7 +153,7 @@ impl UserStore {
 
     // makes the edits of a path's node; it takes all memory before it changes what the store means
     fn write(&mut self, path: &Path, tx: u64, moment: u64, edits: &[Edit]) -> Result<(), NoMemory>
-        requires { are_on path.now edits.now ≡ true }
+        requires { are_own path.now edits.now ≡ true }
         ensures ok { OnOk result (store_of self.new ≡ with_put (store_of self.old) path.now tx moment edits.now) }
         ensures err { OnErr result (store_of self.new ≡ store_of self.old) }
     {
