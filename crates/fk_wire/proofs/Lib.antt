@@ -2,6 +2,7 @@ pub mod FiredBack
 pub mod Fit
 pub mod MadesBack
 pub mod NoteBack
+pub mod Pusheds
 pub mod Requests
 pub mod Sents
 pub mod TellBack

@@ -3,6 +3,8 @@ pub mod Json
 pub mod Limits
 pub mod Mades
 pub mod NoteText
+pub mod Objects
 pub mod Ops
+pub mod PushedText
 pub mod SentText
 pub mod TellText

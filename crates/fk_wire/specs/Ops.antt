@@ -2,6 +2,7 @@
 use Rattle.std.specs.Prelude.{ℕ, ◌&&◌, nat_lt, if◌then◌else◌, ℤ, Bool, false, ⊤, List, codes, length, Option, Some, None, option_and_then, option_map}
 use Rattle.std.specs.Str.{bytes_eq}
 use Rattle.serde_json.specs.Data.{Data, boolean, member, no_members, object, string}
+use Rattle.serde_json.specs.Find.{get}
 use Rattle.fk_base.specs.Path.{PathNames}
 use Rattle.fk_tree.specs.declared.request.Part.{Part}
 use Rattle.fk_tree.specs.declared.request.Part.TheVariants as part
@@ -90,3 +91,7 @@ request_by v d t = if bytes_eq t (codes "close") then option_map request.Close (
 -- the request of which a value has the fields
 abbrev pub request_from : Version → Data → Option Request
 request_from v d = option_and_then (request_by v d) (text_at (codes "t") d)
+
+-- the request at the key `op`
+abbrev pub op_at : Version → Data → Option Request
+op_at v d = option_and_then (request_from v) (get (codes "op") d)

@@ -1,11 +1,10 @@
 -- The texts of a request on its way to its follower.
 use Rattle.std.specs.Prelude.{◌≡◌, ℕ, ◌^◌, List, codes, Option, option_and_then, option_map}
 use Rattle.serde_json.specs.Data.{Data, member, no_members, object}
-use Rattle.serde_json.specs.Find.{get}
 use Rattle.serde_json.specs.Written.{compact_text}
 use Rattle.fk_wire.specs.Json.{IsTextOf, number_at, number_data, version_data}
 use Rattle.fk_wire.specs.Limits.{IsLimitedRequest, IsNumber, IsTypedRequest}
-use Rattle.fk_wire.specs.Ops.{CanSayRequest, request_data, request_from}
+use Rattle.fk_wire.specs.Ops.{CanSayRequest, op_at, request_data}
 use Rattle.fk_wire.specs.declared.message.Sent.{Sent}
 use Rattle.fk_wire.specs.declared.version.Version.{Version}
 
@@ -39,7 +38,7 @@ IsSentText = IsTextOf IsSent CanSaySent sent_data
 
 -- the message of which a value has the fields
 abbrev pub sent_from : Version → Data → Option Sent
-sent_from v d = option_and_then (λ request. option_map (λ seen. record { request = request; seen = seen }) (number_at (2 ^ 63) (codes "seen") d)) (option_and_then (request_from v) (get (codes "op") d))
+sent_from v d = option_and_then (λ request. option_map (λ seen. record { request = request; seen = seen }) (number_at (2 ^ 63) (codes "seen") d)) (op_at v d)
 
 -- A law: bytes are the text of one message.
 abbrev pub OneSent : Type 0

@@ -13,7 +13,7 @@ use Rattle.fk_wire.specs.declared.message.Tell.TheVariants as tell
 use Rattle.fk_wire.specs.declared.version.Version.{Version}
 use Rattle.fk_wire.specs.declared.version.Version.TheVariants as version
 use Rattle.fk_wire.specs.Fired.{IsLimitedFired, IsTypedFired, change_word, fired_from, kind_word}
-use Rattle.fk_wire.specs.Json.{IsTextOf, number_at, number_data, path_at, path_data, text_at, version_data, version_from}
+use Rattle.fk_wire.specs.Json.{IsTextOf, number_at, number_data, path_at, path_data, text_at, version_data}
 use Rattle.fk_wire.specs.Limits.{IsNumber, IsPath, IsSmall}
 use Rattle.fk_wire.specs.Mades.{AreTypedMades, mades_at, mades_data}
 

@@ -5,7 +5,7 @@ ghost use Rattle.std.specs.List.{AllByRecursion};
 ghost use Rattle.serde_json.specs.View.{items_view, view};
 ghost use Rattle.fk_wire.specs.Json.{items_onto, list_data};
 ghost use Rattle.fk_wire.specs.Limits.{IsData, IsLimitedPart, IsLimitedRequest, IsPath, IsTypedPart, IsTypedRequest};
-ghost use Rattle.fk_wire.specs.Ops.{CanSayRequest, create_data, create_from, delete_data, delete_from, multi_from, part_by, part_data, part_from, request_data, request_from, request_of, set_data, set_from};
+ghost use Rattle.fk_wire.specs.Ops.{CanSayRequest, create_data, create_from, delete_data, delete_from, multi_from, op_at, part_by, part_data, part_from, request_data, request_from, request_of, set_data, set_from};
 
 use crate::reading::{bytes_at, expected_at, flag_at, path_at, text_at};
 use crate::version::Version;
@@ -260,11 +260,7 @@ fn request_of(version: Version, seq: Option<bool>, part: Part) -> Option<Request
 }
 
 /// The request of which a value has the fields.
-pub(crate) fn request_from(
-    alloc: Global,
-    version: Version,
-    value: &Value,
-) -> Result<Option<Request>, NoMemory>
+fn request_from(alloc: Global, version: Version, value: &Value) -> Result<Option<Request>, NoMemory>
     ensures request { IfOk result (λ o. o ≡ request_from version (view value.now)) }
     ensures limited { IfOk result (λ o. IfSome o IsLimitedRequest) }
     ensures typed { IfOk result (λ o. IfSome o IsTypedRequest) }
@@ -280,5 +276,22 @@ pub(crate) fn request_from(
             Some(part) => Ok(request_of(version, flag_at(value, "s"), part)),
             None => Ok(None),
         },
+    }
+}
+
+/// The request at the key `op`.
+pub(crate) fn op_at(
+    alloc: Global,
+    version: Version,
+    value: &Value,
+) -> Result<Option<Request>, NoMemory>
+    ensures request { IfOk result (λ o. o ≡ op_at version (view value.now)) }
+    ensures limited { IfOk result (λ o. IfSome o IsLimitedRequest) }
+    ensures typed { IfOk result (λ o. IfSome o IsTypedRequest) }
+    ensures said { IfOk result (λ o. IfSome o (CanSayRequest version)) }
+{
+    match value.get("op") {
+        Some(op) => request_from(alloc, version, op),
+        None => Ok(None),
     }
 }

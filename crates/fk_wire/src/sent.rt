@@ -8,7 +8,7 @@ ghost use Rattle.fk_wire.specs.declared.version.Version.TheVariants as version;
 
 use crate::fault::WireFault;
 use crate::message::Sent;
-use crate::op::{request_from, request_value};
+use crate::op::{op_at, request_value};
 use crate::reading::{NUMBERS, number_at, value_of, version_from};
 use crate::version::Version;
 use crate::writing::{is_same, text_of};
@@ -32,10 +32,7 @@ fn sent_from(alloc: Global, version: Version, value: &Value) -> Result<Option<Se
     ensures sent { IfOk result (λ o. IfSome o IsSent) }
     ensures said { IfOk result (λ o. IfSome o (CanSaySent version)) }
 {
-    let Some(op) = value.get("op") else {
-        return Ok(None);
-    };
-    let Some(request) = request_from(alloc, version, op)? else {
+    let Some(request) = op_at(alloc, version, value)? else {
         return Ok(None);
     };
     match number_at(NUMBERS, value, "seen") {

@@ -72,8 +72,7 @@ fn first_done_value(
 }
 
 fn evicted_value(alloc: Global, version: Version, k: u64, tx: u64) -> Result<Value, NoMemory>
-    ensures value { IfOk result (λ value. view value ≡ tell_data version (Tell.Evicted k tx)) }
-    ensures typed { IfOk result (λ value. IsTypedTell (Tell.Evicted k tx)) }
+    ensures { IfOk result (λ value. view value ≡ tell_data version (Tell.Evicted k tx)) }
 {
     let v = version.number();
     let value = json!(in alloc; {"k": k, "t": "evicted", "tx": tx, "v": v})?;
@@ -135,8 +134,7 @@ fn watch_value(alloc: Global, version: Version, tx: u64, fired: &Fired) -> Resul
 }
 
 fn ping_value(alloc: Global, version: Version, n: u64) -> Result<Value, NoMemory>
-    ensures value { IfOk result (λ value. view value ≡ tell_data version (Tell.Ping n)) }
-    ensures typed { IfOk result (λ value. IsTypedTell (Tell.Ping n)) }
+    ensures { IfOk result (λ value. view value ≡ tell_data version (Tell.Ping n)) }
 {
     let v = version.number();
     let value = json!(in alloc; {"n": n, "t": "ping", "v": v})?;
