@@ -1,6 +1,9 @@
 -- Laws of what a post means.
-use Rattle.std.specs.Prelude.{◌≡◌, ℕ, ◌+◌, true, List, [], is_some}
+use Rattle.std.specs.Prelude.{◌≡◌, ℕ, ◌+◌, true, false, List, [], is_some}
+use Rattle.fk_queue.specs.declared.answer.Ack.{Ack}
+use Rattle.fk_queue.specs.declared.answer.Posted.{Posted}
 use Rattle.fk_queue.specs.declared.lane.Lane.{Lane}
+use Rattle.fk_queue.specs.Answers.{after_ack, after_push}
 use Rattle.fk_queue.specs.Lanes.{same_lane}
 use Rattle.fk_queue.specs.Letters.{head_number}
 use Rattle.fk_queue.specs.Meaning.{Meaning, has_lane, popped, pushed, waiting_in}
@@ -8,6 +11,18 @@ use Rattle.fk_queue.specs.Meaning.{Meaning, has_lane, popped, pushed, waiting_in
 -- The test for the same lane is true exactly where the lanes are equal.
 abbrev pub SameLaneIsEqual : Type 0
 SameLaneIsEqual = ((p q : Lane) → same_lane p q ≡ true → p ≡ q) × ((l : Lane) → same_lane l l ≡ true)
+
+-- Whatever a push or an acknowledgement answers, the other lanes stay as they are.
+abbrev pub OthersStay : Type 0
+OthersStay = (m : Meaning) (l q : Lane) → same_lane q l ≡ false
+    → ((bytes : List ℕ) (r : Posted) → (after_push m l bytes r).lanes q ≡ m.lanes q)
+    × ((r : Ack) → (after_ack m l r).lanes q ≡ m.lanes q)
+
+-- Whatever a push or an acknowledgement answers, the sessions stay as they are.
+abbrev pub SessionsStay : Type 0
+SessionsStay = (m : Meaning) (l : Lane)
+    → ((bytes : List ℕ) (r : Posted) → (after_push m l bytes r).sessions ≡ m.sessions)
+    × ((r : Ack) → (after_ack m l r).sessions ≡ m.sessions)
 
 -- A push makes one message more wait.
 abbrev pub PushAddsOne : Type 0

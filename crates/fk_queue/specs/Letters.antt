@@ -2,6 +2,7 @@
 use Rattle.std.specs.Prelude.{◌≡◌, ℕ, zero, suc, ◌+◌, ◌-◌, ◌≤◌, List, [], ◌∷◌, ◌++◌, length, map, Option, Some, None}
 use Rattle.fk_queue.specs.declared.letter.Letter.{Letter}
 
+-- the count of its pushes, and the messages that aren't removed, the head first
 pub record LaneState : Type 0 where
   pub given : ℕ
   pub waiting : List Letter
@@ -23,6 +24,7 @@ rest (x ∷ xs) = xs
 abbrev pub without_head : LaneState → LaneState
 without_head s = record s { waiting = rest s.waiting }
 
+-- the number of the first
 abbrev pub first_number : List Letter → Option ℕ
 first_number [] = None
 first_number (x ∷ xs) = Some x.number
@@ -31,11 +33,12 @@ first_number (x ∷ xs) = Some x.number
 abbrev pub head_number : LaneState → Option ℕ
 head_number s = first_number s.waiting
 
+-- the message of the first
 abbrev pub first_bytes : List Letter → List ℕ
 first_bytes [] = []
 first_bytes (x ∷ xs) = x.bytes
 
--- the message of the head
+-- the message of the head; that of an empty lane counts as empty
 abbrev pub head_bytes : LaneState → List ℕ
 head_bytes s = first_bytes s.waiting
 

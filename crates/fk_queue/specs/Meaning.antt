@@ -6,7 +6,7 @@ use Rattle.fk_queue.specs.declared.lane.Lane.TheVariants as lane
 use Rattle.fk_queue.specs.Lanes.{is_lane, same_lane}
 use Rattle.fk_queue.specs.Letters.{LaneState, empty_lane, with_letter, without_head}
 
--- The lanes of no session are empty ones.
+-- Sessions are numbered from 1 to the count of sessions; the lanes of no session are empty.
 pub record Meaning : Type 0 where
   pub sessions : ℕ
   pub lanes : Lane → LaneState
@@ -51,6 +51,7 @@ abbrev pub sum_to : ℕ → (ℕ → ℕ) → ℕ
 sum_to zero f = 0
 sum_to (suc n) f = sum_to n f + f (suc n)
 
+-- how many messages wait in a lane
 abbrev pub length_of : LaneState → ℕ
 length_of s = length s.waiting
 

@@ -5,6 +5,7 @@ use Rattle.fk_queue.specs.declared.lane.Lane.TheVariants as lane
 use Rattle.fk_queue.specs.Lanes.{is_lane}
 use Rattle.fk_queue.specs.Letters.{LaneState, empty_lane}
 
+-- the place of a lane, from 0
 abbrev pub place_of : Lane → ℕ
 place_of lane.Leader = 0
 place_of lane.Watch = 1

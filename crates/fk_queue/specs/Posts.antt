@@ -3,6 +3,7 @@ use Rattle.fk_queue.specs.declared.post.Post.{Post}
 use Rattle.fk_queue.specs.Meaning.{Meaning}
 use Rattle.fk_queue.specs.Places.{lanes_of}
 
+-- what a post means; code above doesn't look into it
 unfoldable pub post_of : Post → Meaning
 post_of p = record {
   sessions = p.sessions;

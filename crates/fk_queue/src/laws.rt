@@ -1,10 +1,20 @@
 //! Laws of what a post means. Each function does nothing; its contract is the law.
 
-ghost use Rattle.fk_queue.specs.Laws.{AckTakesOne, NoneWaitsWhereEmpty, PushAddsOne, SameLaneIsEqual};
+ghost use Rattle.fk_queue.specs.Laws.{AckTakesOne, NoneWaitsWhereEmpty, OthersStay, PushAddsOne, SameLaneIsEqual, SessionsStay};
 
 /// A law: the test for the same lane is exact.
 pub fn same_lane_is_equal()
     ensures { SameLaneIsEqual }
+{}
+
+/// A law: a push and an acknowledgement change no other lane, whatever they answer.
+pub fn others_stay()
+    ensures { OthersStay }
+{}
+
+/// A law: a push and an acknowledgement change no session, whatever they answer.
+pub fn sessions_stay()
+    ensures { SessionsStay }
 {}
 
 /// A law: a push makes one message more wait.

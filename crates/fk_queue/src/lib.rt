@@ -14,5 +14,8 @@ mod tests;
 
 pub use answer::{Ack, Posted};
 pub use lane::Lane;
-pub use laws::{ack_takes_one, none_waits_where_empty, push_adds_one, same_lane_is_equal};
+pub use laws::{
+    ack_takes_one, none_waits_where_empty, others_stay, push_adds_one, same_lane_is_equal,
+    sessions_stay,
+};
 pub use post::Post;
