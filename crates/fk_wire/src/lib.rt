@@ -28,3 +28,4 @@ pub use note::{decode_note, encode_note, one_note};
 pub use pushed::{decode_pushed, encode_pushed, one_pushed};
 pub use sent::{decode_send, encode_send, one_sent};
 pub use tell::{decode_tell, encode_tell, one_tell};
+pub use version::Version;

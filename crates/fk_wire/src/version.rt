@@ -3,13 +3,13 @@ ghost use Rattle.fk_wire.specs.Json.{version_number};
 
 /// The version of a text. Every message is written in the second; the first is still read.
 #[derive(Clone, Copy)]
-pub(crate) enum Version {
+pub enum Version {
     One,
     Two,
 }
 
 impl Version {
-    pub(crate) fn number(self) -> u64
+    pub fn number(self) -> u64
         ensures { result ≡ version_number self }
     {
         match self {
