@@ -5,3 +5,4 @@ pub mod Listed
 pub mod Noting
 pub mod Standing
 pub mod Touching
+pub mod Uniqueness

@@ -4,6 +4,7 @@ pub mod Kept
 pub mod Listing
 pub mod Meaning
 pub mod Moving
+pub mod OneList
 pub mod Registering
 pub mod Setting
 pub mod Sound

@@ -5,6 +5,7 @@
 mod answer;
 mod firings;
 mod index;
+mod laws;
 mod listing;
 mod set_watches;
 mod sweeps;
@@ -14,4 +15,5 @@ mod tests;
 mod watch;
 
 pub use answer::{Register, Sweep, Told};
+pub use laws::sweep_lists_one_way;
 pub use table::WatchTable;
