@@ -1,0 +1,13 @@
+pub mod Answers
+pub mod Index
+pub mod Kept
+pub mod Listing
+pub mod Meaning
+pub mod Moving
+pub mod OneList
+pub mod Registering
+pub mod Setting
+pub mod Sound
+pub mod Sweeping
+pub mod Table
+pub mod Touched

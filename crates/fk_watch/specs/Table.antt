@@ -1,0 +1,14 @@
+-- What the fields of a table keep.
+use Rattle.fk_watch.specs.declared.table.WatchTable.TheInside.{Inside}
+use Rattle.fk_watch.specs.Kept.{Kept}
+
+abbrev pub kept_in : Inside → Kept
+kept_in t = record {
+  given = t.given;
+  set = t.set;
+  fired = t.fired.entries;
+  swept = t.swept;
+  sweeps = t.sweeps.entries;
+  armed = t.armed;
+  faults = t.faults;
+}
