@@ -1,3 +1,4 @@
 pub mod Owning
 pub mod Placing
 pub mod Putting
+pub mod Standing

@@ -6,6 +6,7 @@ mod answer;
 mod id_set;
 mod own;
 mod records;
+mod store_laws;
 #[cfg(test)]
 mod tests;
 mod user_store;
@@ -13,4 +14,5 @@ mod user_store;
 pub use answer::{Publish, PutRecord, UserLook, UserRead};
 pub use id_set::IdSet;
 pub use own::own_edits;
+pub use store_laws::{done_once, stamps_never_fall};
 pub use user_store::UserStore;
