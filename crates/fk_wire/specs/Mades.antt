@@ -1,10 +1,12 @@
 -- What the parts of a multi came to, as JSON.
-use Rattle.std.specs.Prelude.{ℕ, ◌^◌, List, codes, Option, option_and_then, option_map}
+use Rattle.std.specs.Prelude.{◌≡◌, ℕ, ◌^◌, ⊤, List, [], codes, Option, Some, option_and_then, option_map}
 use Rattle.std.specs.List.{AllByRecursion}
 use Rattle.serde_json.specs.Data.{Data, object, member, no_members}
 use Rattle.fk_tree.specs.declared.applied.Made.{Made}
 use Rattle.fk_wire.specs.Json.{list_at, list_data, number_at, number_data, path_at, path_data}
 use Rattle.fk_wire.specs.Limits.{IsPath, IsSmall}
+use Rattle.fk_wire.specs.declared.version.Version.{Version}
+use Rattle.fk_wire.specs.declared.version.Version.TheVariants as version
 
 -- one entry
 abbrev pub made_data : Made → Data
@@ -33,3 +35,13 @@ made_from d =
 -- the entries at a key
 abbrev pub mades_at : List ℕ → Data → Option (List Made)
 mades_at = list_at made_from
+
+-- Which entries a version can say: the first knows no multi.
+abbrev pub CanSayMades : Version → List Made → Type 0
+CanSayMades version.One made = made ≡ []
+CanSayMades version.Two made = ⊤
+
+-- the entries of a value in this version
+abbrev pub made_in : Version → Data → Option (List Made)
+made_in version.One d = Some []
+made_in version.Two d = mades_at (codes "made") d

@@ -1,12 +1,12 @@
 -- The texts of a request on its way to the leader.
-use Rattle.std.specs.Prelude.{◌≡◌, ℕ, ◌^◌, ⊤, List, [], codes, Option, Some, option_and_then, option_map}
+use Rattle.std.specs.Prelude.{◌≡◌, ℕ, ◌^◌, List, codes, Option, option_and_then, option_map}
 use Rattle.std.specs.List.{AllByRecursion}
 use Rattle.serde_json.specs.Data.{Data, Members, member, no_members, object, put}
 use Rattle.serde_json.specs.Written.{compact_text}
 use Rattle.fk_tree.specs.declared.applied.Made.{Made}
 use Rattle.fk_wire.specs.Json.{IsTextOf, list_at, list_data, number_at, number_data, path_at, path_data, path_from, version_data}
 use Rattle.fk_wire.specs.Limits.{IsLimitedRequest, IsNumber, IsPath, IsSmall, IsTypedRequest}
-use Rattle.fk_wire.specs.Mades.{AreTypedMades, mades_at, mades_data}
+use Rattle.fk_wire.specs.Mades.{AreTypedMades, CanSayMades, made_in, mades_data}
 use Rattle.fk_wire.specs.Ops.{CanSayRequest, op_at, request_data}
 use Rattle.fk_wire.specs.declared.message.Pushed.{Pushed}
 use Rattle.fk_wire.specs.declared.pushed.Heading.{Heading}
@@ -55,11 +55,6 @@ IsTypedPushed m = IsSmall m.session × IsTypedRequest m.request × IsPath m.name
 abbrev pub IsPushed : Pushed → Type 0
 IsPushed m = IsLimitedPushed m × IsTypedPushed m
 
--- what the parts came to can be said by a version: the first has no multi
-abbrev pub CanSayMades : Version → List Made → Type 0
-CanSayMades version.One made = made ≡ []
-CanSayMades version.Two made = ⊤
-
 -- which messages a version can say
 abbrev pub CanSayPushed : Version → Pushed → Type 0
 CanSayPushed v m = CanSayRequest v m.request × CanSayMades v m.made
@@ -90,11 +85,6 @@ with_made version.One made ms = ms
 with_made version.Two made ms = put (codes "made") (mades_data made) ms
 
 -- ---- reading
-
--- what the parts came to; nothing in the first version
-abbrev pub made_in : Version → Data → Option (List Made)
-made_in version.One d = Some []
-made_in version.Two d = mades_at (codes "made") d
 
 -- the numbers of a value
 abbrev pub heading_from : Data → Option Heading

@@ -1,5 +1,5 @@
 -- The text of a tell. Its key `t` tells its kind.
-use Rattle.std.specs.Prelude.{◌≡◌, ℕ, ◌^◌, ◌==◌, ⊤, ℤ, pos, negsuc, if◌then◌else◌, List, [], codes, Option, Some, None, option_and_then, option_map}
+use Rattle.std.specs.Prelude.{◌≡◌, ℕ, ◌^◌, ◌==◌, ⊤, ℤ, pos, negsuc, if◌then◌else◌, List, codes, Option, Some, None, option_and_then, option_map}
 use Rattle.std.specs.Str.{bytes_eq}
 use Rattle.serde_json.specs.Data.{Data, object, number, string, Members, member, no_members}
 use Rattle.serde_json.specs.Find.{as_i64, as_number, get, of_integer}
@@ -15,7 +15,7 @@ use Rattle.fk_wire.specs.declared.version.Version.TheVariants as version
 use Rattle.fk_wire.specs.Fired.{IsLimitedFired, IsTypedFired, change_word, fired_from, kind_word}
 use Rattle.fk_wire.specs.Json.{IsTextOf, number_at, number_data, path_at, path_data, text_at, version_data}
 use Rattle.fk_wire.specs.Limits.{IsNumber, IsPath, IsSmall}
-use Rattle.fk_wire.specs.Mades.{AreTypedMades, mades_at, mades_data}
+use Rattle.fk_wire.specs.Mades.{AreTypedMades, CanSayMades, made_in, mades_data}
 
 -- a code is its number
 abbrev pub code_data : Code → Data
@@ -103,7 +103,7 @@ IsTell m = IsLimitedTell m × IsTypedTell m
 
 -- which tells a version can say: the first knows no multi
 abbrev pub CanSayTell : Version → Tell → Type 0
-CanSayTell version.One (tell.Done k tx name node made) = made ≡ []
+CanSayTell version.One (tell.Done k tx name node made) = CanSayMades version.One made
 CanSayTell version.One (tell.Evicted k tx) = ⊤
 CanSayTell version.One (tell.Refused k c at place) = place ≡ 0
 CanSayTell version.One (tell.Lost k path own found moment) = ⊤
@@ -133,11 +133,6 @@ code_of (negsuc n) =
 -- the code at a key
 abbrev pub code_at : List ℕ → Data → Option Code
 code_at key d = option_and_then code_of (option_and_then as_i64 (option_and_then as_number (get key d)))
-
--- what the parts came to, in a text of this version
-abbrev pub made_in : Version → Data → Option (List Made)
-made_in version.One d = Some []
-made_in version.Two d = mades_at (codes "made") d
 
 -- the place, in a text of this version
 abbrev pub place_in : Version → Data → Option ℕ

@@ -16,6 +16,8 @@ mod tell;
 mod tell_reading;
 mod tell_writing;
 #[cfg(test)]
+mod tests;
+#[cfg(test)]
 mod tests_tell;
 mod version;
 mod watches;

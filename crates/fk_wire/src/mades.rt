@@ -2,9 +2,10 @@
 
 ghost use Rattle.std.specs.Prelude.{◌≡◌, IfOk, IfSome};
 ghost use Rattle.serde_json.specs.View.{view};
-ghost use Rattle.fk_wire.specs.Mades.{AreTypedMades, IsTypedMade, made_data, made_from, mades_at, mades_data};
+ghost use Rattle.fk_wire.specs.Mades.{AreTypedMades, CanSayMades, IsTypedMade, made_data, made_from, made_in, mades_at, mades_data};
 
 use crate::reading::{SMALL, number_at, path_at};
+use crate::version::Version;
 use crate::writing::text_of_path;
 use fk_base::NoMemory;
 use fk_tree::{Made, Mades};
@@ -49,7 +50,7 @@ fn made_from(alloc: Global, value: &Value) -> Result<Option<Made>, NoMemory>
 }
 
 /// The entries at a key.
-pub(crate) fn mades_at(alloc: Global, value: &Value, key: &str) -> Result<Option<Mades>, NoMemory>
+fn mades_at(alloc: Global, value: &Value, key: &str) -> Result<Option<Mades>, NoMemory>
     ensures mades { IfOk result (λ o. o ≡ mades_at key.now (view value.now)) }
     ensures typed { IfOk result (λ o. IfSome o AreTypedMades) }
 {
@@ -66,4 +67,20 @@ pub(crate) fn mades_at(alloc: Global, value: &Value, key: &str) -> Result<Option
         left = rest;
     }
     Ok(Some(mades))
+}
+
+/// The entries of a value in this version; the first has none.
+pub(crate) fn made_in(
+    alloc: Global,
+    version: Version,
+    value: &Value,
+) -> Result<Option<Mades>, NoMemory>
+    ensures made { IfOk result (λ o. o ≡ made_in version (view value.now)) }
+    ensures typed { IfOk result (λ o. IfSome o AreTypedMades) }
+    ensures said { IfOk result (λ o. IfSome o (CanSayMades version)) }
+{
+    match version {
+        Version::One => Ok(Some(Mades::new(alloc))),
+        Version::Two => mades_at(alloc, value, "made"),
+    }
 }

@@ -6,12 +6,12 @@ ghost use Rattle.serde_json.specs.View.{view};
 ghost use Rattle.fk_wire.specs.Limits.{IsNumber, IsPath, IsSmall};
 ghost use Rattle.fk_wire.specs.Mades.{AreTypedMades};
 ghost use Rattle.fk_wire.specs.Objects.{members};
-ghost use Rattle.fk_wire.specs.PushedText.{CanSayMades, CanSayPushed, IsLimitedPushed, IsPushed, IsPushedText, IsTypedPushed, OnePushed, heading_from, heading_members, made_in, pushed_data, pushed_from, pushed_text, with_made, with_paths};
+ghost use Rattle.fk_wire.specs.PushedText.{CanSayPushed, IsLimitedPushed, IsPushed, IsPushedText, IsTypedPushed, OnePushed, heading_from, heading_members, pushed_data, pushed_from, pushed_text, with_made, with_paths};
 ghost use Rattle.fk_wire.specs.declared.message.Pushed.{Pushed};
 ghost use Rattle.fk_wire.specs.declared.version.Version.TheVariants as version;
 
 use crate::fault::WireFault;
-use crate::mades::{mades_at, mades_value};
+use crate::mades::{made_in, mades_value};
 use crate::message::Pushed;
 use crate::object::Object;
 use crate::op::{op_at, request_value};
@@ -107,18 +107,6 @@ fn heading_from(value: &Value) -> Option<Heading>
         moment,
         version,
     })
-}
-
-/// What the parts came to; nothing in the first version.
-fn made_in(alloc: Global, version: Version, value: &Value) -> Result<Option<Mades>, NoMemory>
-    ensures made { IfOk result (λ o. o ≡ made_in version (view value.now)) }
-    ensures typed { IfOk result (λ o. IfSome o AreTypedMades) }
-    ensures said { IfOk result (λ o. IfSome o (CanSayMades version)) }
-{
-    match version {
-        Version::One => Ok(Some(Mades::new(alloc))),
-        Version::Two => mades_at(alloc, value, "made"),
-    }
 }
 
 /// The message of which a value has the fields.

@@ -3,17 +3,15 @@
 ghost use Rattle.std.specs.Prelude.{◌≡◌, IfOk, IfSome};
 ghost use Rattle.serde_json.specs.View.{view};
 ghost use Rattle.fk_wire.specs.Limits.{IsSmall};
-ghost use Rattle.fk_wire.specs.Mades.{AreTypedMades};
 ghost use Rattle.fk_wire.specs.declared.version.Version.{Version};
-ghost use Rattle.fk_wire.specs.TellText.{CanSayTell, IsTell, code_at, code_of, done_from, evicted_from, kind_from, lost_from, made_in, ping_from, place_in, refused_from, tell_from, watch_from};
+ghost use Rattle.fk_wire.specs.TellText.{CanSayTell, IsTell, code_at, code_of, done_from, evicted_from, kind_from, lost_from, ping_from, place_in, refused_from, tell_from, watch_from};
 
-use crate::mades::mades_at;
+use crate::mades::made_in;
 use crate::message::Tell;
 use crate::reading::{NUMBERS, SMALL, number_at, path_at, text_at};
 use crate::version::Version;
 use crate::watches::fired_from;
 use fk_base::{Code, NoMemory};
-use fk_tree::Mades;
 use serde_json::Value;
 use std::alloc::Global;
 
@@ -38,17 +36,6 @@ fn code_at(value: &Value, key: &str) -> Option<Code>
     ensures { result ≡ code_at key.now (view value.now) }
 {
     code_of(value.get(key).and_then(Value::as_i64)?)
-}
-
-/// The entries of a commit, which version 1 has none of.
-fn made_in(alloc: Global, version: Version, value: &Value) -> Result<Option<Mades>, NoMemory>
-    ensures made { IfOk result (λ o. o ≡ made_in version (view value.now)) }
-    ensures typed { IfOk result (λ o. IfSome o AreTypedMades) }
-{
-    match version {
-        Version::One => Ok(Some(Mades::new(alloc))),
-        Version::Two => mades_at(alloc, value, "made"),
-    }
 }
 
 /// The place of a refusal, which version 1 has none of.
