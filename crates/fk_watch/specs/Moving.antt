@@ -23,14 +23,16 @@ fired_by tx change (Some w) o = Some (record { watch = w; tx = tx; change = chan
 abbrev pub fired_among : ℕ → Change → List (ℕ × Watch) → List ℕ → ℕ → Option Firing → Option Firing
 fired_among tx change ws ns n o = if has_id n ns then fired_by tx change (at n ws) o else o
 
--- the numbers of a path's watches
+-- the numbers that are kept, if any
 abbrev pub numbers_in : Option Numbers → List ℕ
 numbers_in None = []
 numbers_in (Some numbers) = tree.values numbers
 
+-- the numbers of a path's watches in an index
 abbrev pub numbers_on : PathNames → Index → List ℕ
 numbers_on p index = numbers_in (tree.get path_cmp index p)
 
+-- the numbers of a path's watches are kept by rising sessions
 abbrev pub AreOrdered : PathNames → Index → Type 0
 AreOrdered p index = IfSome (tree.get path_cmp index p) (λ numbers. tree.IsOrdered nat_cmp numbers)
 
