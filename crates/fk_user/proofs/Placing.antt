@@ -126,8 +126,8 @@ without_absent n (m ∷ ns) h = grind (arith, without_absent n ns)
 pub taken : (n : ℕ) (ns : List ℕ) → ids_rise ns ≡ true → remove_key (nat_eq n) ns ≡ without_id n ns
 taken n [] r = refl
 taken n (m ∷ ns) r =
-    let rest : remove_key (nat_eq n) ns ≡ without_id n ns = taken n ns (and_right _ _ r) in
-    let absent : has_id m ns ≡ false = below_absent nat_cmp_total nat_cmp-IsAntisymmetric m ns (and_left _ _ r) in
+    let rest : remove_key (nat_eq n) ns ≡ without_id n ns = taken n ns (and_right (is_below nat_cmp m ns) (ids_rise ns) r) in
+    let absent : has_id m ns ≡ false = below_absent nat_cmp_total nat_cmp-IsAntisymmetric m ns (and_left (is_below nat_cmp m ns) (ids_rise ns) r) in
     grind (arith, rest, absent, without_absent n ns)
 
 pub without_rises : (n : ℕ) (ns : List ℕ) → ids_rise ns ≡ true → ids_rise (without_id n ns) ≡ true

@@ -66,6 +66,7 @@ impl IdSet {
         self.items.shift_remove(&id);
     }
 
+    /// Whether the number is there, in constant time.
     #[tactic(auto, using(crate::proofs::Placing::has_any, crate::proofs::Placing::member, crate::proofs::Placing::has_member))]
     pub fn contains(&self, id: u64) -> bool
         ensures test { result ≡ has_id id self.now }
@@ -74,6 +75,7 @@ impl IdSet {
         self.items.contains(&id)
     }
 
+    /// The first number, in constant time.
     pub fn least(&self) -> Option<u64>
         ensures { result ≡ slice_get self.now 0 }
     {
