@@ -1,0 +1,9 @@
+pub mod FiredBack
+pub mod Fit
+pub mod MadesBack
+pub mod NoteBack
+pub mod Requests
+pub mod Sents
+pub mod TellBack
+pub mod Texts
+pub mod Values

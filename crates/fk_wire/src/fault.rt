@@ -1,3 +1,4 @@
+use fk_base::NoMemory;
 use thiserror::Error;
 
 /// Why bytes are no message.
@@ -8,4 +9,15 @@ pub enum WireFault {
     Malformed,
     #[error("out of memory")]
     NoMemory,
+}
+
+impl From<NoMemory> for WireFault {
+    ghost use Rattle.std.specs.Prelude.{◌≡◌};
+    ghost use Rattle.fk_wire.specs.declared.fault.WireFault.TheVariants as fault;
+
+    ghost from_gives = { λ _ e. e ≡ fault.NoMemory };
+
+    fn from(_error: NoMemory) -> WireFault {
+        WireFault::NoMemory
+    }
 }

@@ -4,8 +4,24 @@
 
 mod fault;
 mod fired;
+mod mades;
 mod message;
+mod note;
+mod op;
+mod reading;
+mod sent;
+mod tell;
+mod tell_reading;
+mod tell_writing;
+#[cfg(test)]
+mod tests_tell;
+mod version;
+mod watches;
+mod writing;
 
 pub use fault::WireFault;
 pub use fired::{Fired, FiredList};
 pub use message::{Note, Pushed, Sent, Tell};
+pub use note::{decode_note, encode_note, one_note};
+pub use sent::{decode_send, encode_send, one_sent};
+pub use tell::{decode_tell, encode_tell, one_tell};

@@ -1,0 +1,69 @@
+//! What the parts of a multi came to, as JSON.
+
+ghost use Rattle.std.specs.Prelude.{◌≡◌, IfOk, IfSome};
+ghost use Rattle.serde_json.specs.View.{view};
+ghost use Rattle.fk_wire.specs.Mades.{AreTypedMades, IsTypedMade, made_data, made_from, mades_at, mades_data};
+
+use crate::reading::{SMALL, number_at, path_at};
+use crate::writing::text_of_path;
+use fk_base::NoMemory;
+use fk_tree::{Made, Mades};
+use serde_json::{Value, json};
+use std::alloc::Global;
+
+fn made_value(alloc: Global, made: &Made) -> Result<Value, NoMemory>
+    ensures value { IfOk result (λ value. view value ≡ made_data made.now) }
+    ensures typed { IfOk result (λ value. IsTypedMade made.now) }
+{
+    let text = text_of_path(&made.name)?;
+    let name = text.as_str();
+    let version = made.version;
+    let value = json!(in alloc; {"name": name, "version": version})?;
+    Ok(value)
+}
+
+/// The entries as a JSON array.
+pub(crate) fn mades_value(alloc: Global, mades: &Mades) -> Result<Value, NoMemory>
+    ensures value { IfOk result (λ value. view value ≡ mades_data mades.now) }
+    ensures typed { IfOk result (λ value. AreTypedMades mades.now) }
+{
+    let mut list = Vec::new(alloc);
+    'writing: for made in mades.as_slice() {
+        list.push(made_value(alloc, made)?)?;
+    }
+    Ok(Value::Array(list))
+}
+
+fn made_from(alloc: Global, value: &Value) -> Result<Option<Made>, NoMemory>
+    ensures made { IfOk result (λ o. o ≡ made_from (view value.now)) }
+    ensures typed { IfOk result (λ o. IfSome o IsTypedMade) }
+{
+    let Some(name) = path_at(alloc, value, "name")? else {
+        return Ok(None);
+    };
+    let Some(version) = number_at(SMALL, value, "version") else {
+        return Ok(None);
+    };
+    let version = version as u32;
+    Ok(Some(Made { name, version }))
+}
+
+/// The entries at a key.
+pub(crate) fn mades_at(alloc: Global, value: &Value, key: &str) -> Result<Option<Mades>, NoMemory>
+    ensures mades { IfOk result (λ o. o ≡ mades_at key.now (view value.now)) }
+    ensures typed { IfOk result (λ o. IfSome o AreTypedMades) }
+{
+    let Some(list) = value.get(key).and_then(Value::as_array) else {
+        return Ok(None);
+    };
+    let mut mades = Mades::new(alloc);
+    let mut left = list.as_slice();
+    'reading: while let [first, rest @ ..] = left {
+        let Some(made) = made_from(alloc, first)? else {
+            return Ok(None);
+        };
+        mades.push(made)?;
+        left = rest;
+    }
+    Ok(Some(mades))
+}
