@@ -10,7 +10,7 @@ use Rattle.fk_watch.specs.Meaning.{Watches}
 -- a watch as it fires with a change, if there is one
 abbrev pub firing : ℕ → Watch → Option Change → Option Firing
 firing tx w None = None
-firing tx w (Some change) = Some (record { watch = w; tx = tx; change = change })
+firing tx w (Some c) = Some (record { watch = w; tx = tx; change = c })
 
 -- How the touches of a transaction fire a set watch: it shows the first of them that is of its path and that its
 -- kind takes.
