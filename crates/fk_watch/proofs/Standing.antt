@@ -13,7 +13,7 @@ use Rattle.fk_watch.specs.Kept.{Kept, watches_of}
 use Rattle.fk_watch.specs.Meaning.{Watches, armed, calmed, failed, new_watches}
 use Rattle.fk_watch.specs.Registering.{with_watch, IsUnset}
 use Rattle.fk_watch.specs.Sound.{IsGiven, IsSound}
-use Rattle.fk_watch.specs.Sweeping.{fires, firing, not_of, or_else, swept_for, told, unless}
+use Rattle.fk_watch.specs.Sweeping.{fires, firing, not_of, or_else, swept_for, told_for, unless}
 
 -- tables that have the same parts are the same
 pub same_watches : (m n : Watches) → m.given ≡ n.given → ((i : ℕ) → m.set i ≡ n.set i) → ((i : ℕ) → m.fired i ≡ n.fired i) → m.swept ≡ n.swept → ((p : PathNames) → m.last p ≡ n.last p) → m.armed ≡ n.armed → m.faults ≡ n.faults → m ≡ n
@@ -49,7 +49,7 @@ was_there : (tx : ℕ) (o : Option Firing) (f : Firing) → not_of tx o ≡ Some
 was_there tx None f e = absurd (cc)
 was_there tx (Some g) f e = by_test (g.tx == tx) (λ b. cond b None (Some g) ≡ Some f → Some g ≡ Some f) (λ _ h. absurd (cc)) (λ _ h. h) e
 
-pub sound_told : (m : Watches) (tx : ℕ) → IsSound m → IsSound (told tx m)
+pub sound_told : (m : Watches) (tx : ℕ) → IsSound m → IsSound (told_for tx m)
 sound_told m tx s = record {
   set_given = s.set_given;
   fired_given = λ n e. s.fired_given n (some_left tx (m.fired n) e);

@@ -16,7 +16,7 @@ use Rattle.fk_watch.specs.declared.watch.Firing.{Firing}
 use Rattle.fk_watch.specs.Listing.{fired_as}
 use Rattle.fk_watch.specs.Meaning.{Watches, failed}
 use Rattle.fk_watch.specs.Registering.{IsNumberOf, registered}
-use Rattle.fk_watch.specs.Sweeping.{only_of, swept_for, told}
+use Rattle.fk_watch.specs.Sweeping.{only_of, swept_for, told_for}
 
 -- REGISTER
 -- Swept with the path's last sweep exactly where that is beyond the mark; else Done with the watch's number.
@@ -27,6 +27,7 @@ IsRegister m w mark (register.Swept t) = (m.armed ≡ false) × (mark < m.last w
 IsRegister m w mark register.Failed = m.armed ≡ true
 IsRegister m w mark register.NoMemory = m.armed ≡ false
 
+-- what a table means after a registration
 abbrev pub after_register : Watches → Watch → Register → Watches
 after_register m w (register.Done n) = registered w n m
 after_register m w (register.Swept t) = m
@@ -34,6 +35,7 @@ after_register m w register.Failed = failed m
 after_register m w register.NoMemory = m
 
 -- SWEEP
+-- the numbers of listed watches
 abbrev pub ids_of : List Fired → List ℕ
 ids_of [] = []
 ids_of (f ∷ fs) = f.id ∷ ids_of fs
@@ -43,6 +45,7 @@ abbrev pub fired_with : ℕ → List Fired → Option Fired
 fired_with n [] = None
 fired_with n (f ∷ fs) = if n == f.id then Some f else fired_with n fs
 
+-- a fired watch as it is listed under its number
 abbrev pub listed : ℕ → Option Firing → Option Fired
 listed n None = None
 listed n (Some f) = Some (fired_as n f)
@@ -65,6 +68,7 @@ IsSweep m tx ts (sweep.Already s fs ids) = (m.armed ≡ false) × (tx ≤ m.swep
 IsSweep m tx ts sweep.Failed = m.armed ≡ true
 IsSweep m tx ts sweep.NoMemory = m.armed ≡ false
 
+-- what a table means after a sweep
 abbrev pub after_sweep : Watches → ℕ → List Touch → Sweep → Watches
 after_sweep m tx ts (sweep.Fired fs ids) = swept_for tx ts m
 after_sweep m tx ts (sweep.Already s fs ids) = m
@@ -77,6 +81,7 @@ abbrev pub IsTold : Watches → Told → Type 0
 IsTold m told.Done = m.armed ≡ false
 IsTold m told.Failed = m.armed ≡ true
 
+-- what a table means after telling
 abbrev pub after_told : Watches → ℕ → Told → Watches
-after_told m tx told.Done = told tx m
+after_told m tx told.Done = told_for tx m
 after_told m tx told.Failed = failed m

@@ -9,9 +9,11 @@ use Rattle.fk_base.specs.Path.{PathNames, path_cmp}
 abbrev pub Numbers : Type 0
 Numbers = BTreeMap ℕ ℕ
 
+-- the numbers of each path's watches
 abbrev pub Index : Type 0
 Index = BTreeMap PathNames Numbers
 
+-- a session's number, where a path has numbers
 abbrev pub number_at : ℕ → Option Numbers → Option ℕ
 number_at s None = None
 number_at s (Some numbers) = tree.get nat_cmp numbers s

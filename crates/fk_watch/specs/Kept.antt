@@ -19,6 +19,7 @@ pub record Kept : Type 0 where
   pub armed : Bool
   pub faults : ℕ
 
+-- the number, or else 0
 abbrev pub or_zero : Option ℕ → ℕ
 or_zero None = 0
 or_zero (Some n) = n
@@ -27,6 +28,7 @@ or_zero (Some n) = n
 abbrev pub last_in : PathNames → List (PathNames × ℕ) → ℕ
 last_in p sweeps = or_zero (lookup (is_at (path_cmp p)) sweeps)
 
+-- what a table means by what it keeps
 abbrev pub watches_of : Kept → Watches
 watches_of k = record {
   given = k.given;

@@ -16,21 +16,23 @@ use Rattle.fk_watch.specs.Sweeping.{not_of}
 
 -- a set watch as a change fires it; what is there stays where no watch is set
 abbrev pub fired_by : ℕ → Change → Option Watch → Option Firing → Option Firing
-fired_by tx change None o = o
-fired_by tx change (Some w) o = Some (record { watch = w; tx = tx; change = change })
+fired_by tx c None o = o
+fired_by tx c (Some w) o = Some (record { watch = w; tx = tx; change = c })
 
 -- the watches with these numbers fire
 abbrev pub fired_among : ℕ → Change → List (ℕ × Watch) → List ℕ → ℕ → Option Firing → Option Firing
-fired_among tx change ws ns n o = if has_id n ns then fired_by tx change (at n ws) o else o
+fired_among tx c ws ns n o = if has_id n ns then fired_by tx c (at n ws) o else o
 
--- the numbers of a path's watches
+-- the numbers that are kept, if any
 abbrev pub numbers_in : Option Numbers → List ℕ
 numbers_in None = []
 numbers_in (Some numbers) = tree.values numbers
 
+-- the numbers of a path's watches in an index
 abbrev pub numbers_on : PathNames → Index → List ℕ
 numbers_on p index = numbers_in (tree.get path_cmp index p)
 
+-- the numbers of a path's watches are kept by rising sessions
 abbrev pub AreOrdered : PathNames → Index → Type 0
 AreOrdered p index = IfSome (tree.get path_cmp index p) (λ numbers. tree.IsOrdered nat_cmp numbers)
 

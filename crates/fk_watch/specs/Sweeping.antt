@@ -7,9 +7,10 @@ use Rattle.fk_watch.specs.declared.watch.Watch.{Watch}
 use Rattle.fk_watch.specs.declared.watch.Firing.{Firing}
 use Rattle.fk_watch.specs.Meaning.{Watches}
 
+-- a watch as it fires with a change, if there is one
 abbrev pub firing : ℕ → Watch → Option Change → Option Firing
 firing tx w None = None
-firing tx w (Some change) = Some (record { watch = w; tx = tx; change = change })
+firing tx w (Some c) = Some (record { watch = w; tx = tx; change = c })
 
 -- How the touches of a transaction fire a set watch: it shows the first of them that is of its path and that its
 -- kind takes.
@@ -17,10 +18,12 @@ abbrev pub fires : ℕ → List Touch → Option Watch → Option Firing
 fires tx ts None = None
 fires tx ts (Some w) = firing tx w (first_taken w.path w.kind ts)
 
+-- the second where there is no first
 abbrev pub unless : {A B : Type 0} → Option A → Option B → Option B
 unless None o = o
 unless (Some x) o = None
 
+-- the first, or else the second
 abbrev pub or_else : {A : Type 0} → Option A → Option A → Option A
 or_else None o = o
 or_else (Some x) o = Some x
@@ -45,5 +48,5 @@ only_of tx None = None
 only_of tx (Some f) = if f.tx == tx then Some f else None
 
 -- the watches that the transaction fired are told
-abbrev pub told : ℕ → Watches → Watches
-told tx m = record m { fired = λ n. not_of tx (m.fired n) }
+abbrev pub told_for : ℕ → Watches → Watches
+told_for tx m = record m { fired = λ n. not_of tx (m.fired n) }

@@ -2,6 +2,7 @@
 use Rattle.fk_watch.specs.declared.table.WatchTable.TheInside.{Inside}
 use Rattle.fk_watch.specs.Kept.{Kept}
 
+-- what a table keeps in its fields
 abbrev pub kept_in : Inside → Kept
 kept_in t = record {
   given = t.given;
