@@ -1,10 +1,9 @@
 -- What a table means where its parts changed.
-use Rattle.std.proofs.Common.{◌≡◌, ◌<◌, ◌≤◌, ◌+◌, ℕ, ◌==◌, Bool, true, false, cond, List, Option, Some, None, refl, sym, ◌∙◌, ap, arith}
+use Rattle.std.proofs.Common.{◌≡◌, ◌<◌, ◌≤◌, ◌+◌, ℕ, ◌==◌, true, false, cond, List, Option, Some, None, refl, ◌∙◌, ap, arith}
 use Rattle.std.specs.Prelude.{is_some}
 use Rattle.fk_base.specs.Path.{PathNames}
 use Rattle.fk_tree.specs.Watch.{has_touch}
 use Rattle.fk_tree.specs.declared.change.Touch.{Touch}
-use Rattle.fk_tree.proofs.Order.{by_test}
 use Rattle.fk_wire.specs.declared.fired.Fired.{Fired}
 use Rattle.fk_watch.specs.declared.watch.Watch.{Watch}
 use Rattle.fk_watch.specs.declared.watch.Firing.{Firing}

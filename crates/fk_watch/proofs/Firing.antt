@@ -11,7 +11,7 @@ use Rattle.std.specs.declared.cmp.Ordering.TheVariants.{Less}
 use Rattle.std.proofs.lemmas.Bool.{eqb-true}
 use Rattle.std.proofs.lemmas.Map.Keys.{sorted_head, sorted_tail}
 use Rattle.fk_base.specs.Path.{PathNames, path_cmp, same_path}
-use Rattle.fk_tree.specs.Watch.{takes, same_kind}
+use Rattle.fk_tree.specs.Watch.{takes}
 use Rattle.fk_tree.specs.declared.change.Change.{Change}
 use Rattle.fk_tree.specs.declared.change.Kind.{Kind}
 use Rattle.fk_tree.specs.declared.change.Kind.TheVariants as kind
@@ -23,7 +23,7 @@ use Rattle.fk_watch.specs.declared.watch.Firing.{Firing}
 use Rattle.fk_watch.specs.Index.{Index, Numbers, number_at, number_in}
 use Rattle.fk_watch.specs.Moving.{fired_by, fired_among, numbers_in, numbers_on, is_on, touched_by, AreOrdered, KeepsOthers}
 use Rattle.fk_watch.specs.Setting.{at, numbered, IsIndexed}
-use Rattle.fk_watch.proofs.Noting.{same_number, same_kind_is, same_kind_self}
+use Rattle.fk_watch.proofs.Noting.{same_kind_is, same_kind_self}
 
 -- NUMBERS, ONE BY ONE
 pub same_is : (n x : ℕ) → is_eq (nat_cmp n x) ≡ (n == x)

@@ -1,6 +1,5 @@
 -- What is listed of the fired watches, and what is forgotten.
-use Rattle.std.proofs.Common.{◌≡◌, ℕ, ◌==◌, ◌||◌, Bool, true, false, cond, not, List, [], ◌∷◌, ◌++◌, Option, Some, None, Ordering, refl, sym, ◌∙◌, ap, subst, arith}
-use Rattle.std.specs.BTreeMap.{is_at}
+use Rattle.std.proofs.Common.{◌≡◌, ℕ, ◌==◌, Bool, true, false, cond, not, List, [], ◌∷◌, ◌++◌, Option, Some, None, refl, sym, ◌∙◌, ap, subst, arith}
 use Rattle.std.specs.Cmp.{nat_cmp_total, eq_by_cmp_equiv}
 use Rattle.std.specs.List.{AllByRecursion, filter}
 use Rattle.std.specs.List.Sorted.{IsStrictlySortedBy}
@@ -10,13 +9,12 @@ use Rattle.std.specs.declared.cmp.Ordering.TheVariants.{Less, Greater}
 use Rattle.std.proofs.lemmas.List.{append_assoc, append-nil}
 use Rattle.std.proofs.lemmas.Map.Entries.{lookup-filter-values, option_filter}
 use Rattle.std.proofs.lemmas.Map.Keys.{sorted_head, sorted_tail, IsDistinct-from_sorted}
-use Rattle.fk_tree.specs.Sorted.{is_below, rises}
+use Rattle.fk_tree.specs.Sorted.{is_below}
 use Rattle.fk_tree.proofs.Order.{by_test}
 use Rattle.fk_user.specs.Ids.{ids_rise, with_id}
-use Rattle.fk_wire.specs.declared.fired.Fired.{Fired}
 use Rattle.fk_watch.specs.declared.watch.Firing.{Firing}
 use Rattle.fk_watch.specs.Answers.{fired_with, ids_of, listed}
-use Rattle.fk_watch.specs.Listing.{fired_as, one_of, those_of}
+use Rattle.fk_watch.specs.Listing.{fired_as, those_of}
 use Rattle.fk_watch.specs.Setting.{at}
 use Rattle.fk_watch.specs.Sweeping.{not_of, only_of}
 use Rattle.fk_watch.proofs.Firing.{same_is, same_id}

@@ -1,5 +1,5 @@
 -- What a table means after a call, and that it stays sound.
-use Rattle.std.proofs.Common.{◌≡◌, ◌<◌, ◌≤◌, ◌+◌, ℕ, ◌==◌, Bool, true, false, cond, List, [], ◌∷◌, Option, Some, None, refl, sym, ◌∙◌, ap, subst, arith}
+use Rattle.std.proofs.Common.{◌≡◌, ◌<◌, ◌≤◌, ◌+◌, ℕ, ◌==◌, Bool, true, false, cond, List, Option, Some, None, refl, sym, ◌∙◌, ap, arith}
 use Rattle.std.specs.Prelude.{is_some}
 use Rattle.std.proofs.lemmas.Bool.{eqb-true}
 use Rattle.fk_base.specs.Path.{PathNames}
@@ -9,8 +9,7 @@ use Rattle.fk_tree.specs.declared.change.Touch.{Touch}
 use Rattle.fk_tree.proofs.Order.{by_test}
 use Rattle.fk_watch.specs.declared.watch.Watch.{Watch}
 use Rattle.fk_watch.specs.declared.watch.Firing.{Firing}
-use Rattle.fk_watch.specs.Kept.{Kept, watches_of}
-use Rattle.fk_watch.specs.Meaning.{Watches, armed, calmed, failed, new_watches}
+use Rattle.fk_watch.specs.Meaning.{Watches, new_watches}
 use Rattle.fk_watch.specs.Registering.{with_watch, IsUnset}
 use Rattle.fk_watch.specs.Sound.{IsGiven, IsSound}
 use Rattle.fk_watch.specs.Sweeping.{fires, firing, not_of, or_else, swept_for, told_for, unless}

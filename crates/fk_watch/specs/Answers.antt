@@ -1,7 +1,5 @@
 -- What the answers of a table's calls say of the table before the call, and what it means after it.
-use Rattle.std.specs.Prelude.{◌≡◌, ◌<◌, ◌≤◌, ℕ, ◌==◌, Bool, true, false, if◌then◌else◌, List, [], ◌∷◌, Option, Some, None, is_some}
-use Rattle.fk_base.specs.Path.{PathNames}
-use Rattle.fk_tree.specs.declared.change.Kind.{Kind}
+use Rattle.std.specs.Prelude.{◌≡◌, ◌<◌, ◌≤◌, ℕ, ◌==◌, true, false, if◌then◌else◌, List, [], ◌∷◌, Option, Some, None, is_some}
 use Rattle.fk_tree.specs.declared.change.Touch.{Touch}
 use Rattle.fk_wire.specs.declared.fired.Fired.{Fired}
 use Rattle.fk_user.specs.Ids.{has_id, ids_rise}

@@ -1,5 +1,5 @@
 -- What holds of every table of watches.
-use Rattle.std.specs.Prelude.{◌≡◌, ◌≤◌, ℕ, true, Option, Some, None, is_some}
+use Rattle.std.specs.Prelude.{◌≡◌, ◌≤◌, ℕ, true, Some, None, is_some}
 use Rattle.fk_base.specs.Path.{PathNames}
 use Rattle.fk_watch.specs.declared.watch.Watch.{Watch}
 use Rattle.fk_watch.specs.declared.watch.Firing.{Firing}

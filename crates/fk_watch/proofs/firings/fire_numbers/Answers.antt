@@ -1,5 +1,5 @@
 use Rattle.std.specs.Map.Iter.{deref}
-use Rattle.std.proofs.Common.{◌∙◌, refl}
+use Rattle.std.proofs.Common.{◌∙◌}
 use Rattle.std.proofs.lemmas.Map.Iter.{rest_more}
 use Rattle.fk_watch.proofs.Firing.{among_step, keeps_on}
 use Rattle.fk_watch.proofs.firings.fire_numbers.Goals as goal

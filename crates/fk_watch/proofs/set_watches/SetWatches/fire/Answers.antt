@@ -1,4 +1,3 @@
-use Rattle.std.proofs.Common.{ap, ◌∙◌}
 use Rattle.fk_watch.specs.Setting.{at}
 use Rattle.fk_watch.proofs.Noting.{ok_so}
 use Rattle.fk_watch.proofs.Firing.{touch_fired}

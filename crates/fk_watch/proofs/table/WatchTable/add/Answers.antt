@@ -3,7 +3,7 @@ use Rattle.fk_base.specs.Path.{PathNames}
 use Rattle.fk_tree.specs.declared.change.Kind.{Kind}
 use Rattle.fk_watch.specs.declared.watch.Watch.{Watch}
 use Rattle.fk_watch.specs.Kept.{Kept, watches_of}
-use Rattle.fk_watch.specs.Registering.{with_watch, IsUnset}
+use Rattle.fk_watch.specs.Registering.{IsUnset}
 use Rattle.fk_watch.specs.Sound.{IsSound}
 use Rattle.fk_watch.specs.Table.{kept_in}
 use Rattle.fk_watch.proofs.Changing.{added_watches}

@@ -1,4 +1,4 @@
-use Rattle.std.proofs.Common.{◌≡◌, ◌<◌, ◌∙◌, refl, sym, ap, subst}
+use Rattle.std.proofs.Common.{◌<◌, ◌∙◌, refl, sym, ap, subst}
 use Rattle.fk_watch.specs.Kept.{Kept, watches_of}
 use Rattle.fk_watch.specs.Meaning.{Watches}
 use Rattle.fk_watch.specs.Sound.{IsSound}
