@@ -7,6 +7,7 @@ ghost use Rattle.fk_wire.specs.Json.{items_onto, list_data};
 ghost use Rattle.fk_wire.specs.Limits.{IsData, IsLimitedPart, IsLimitedRequest, IsPath, IsTypedPart, IsTypedRequest};
 ghost use Rattle.fk_wire.specs.Ops.{CanSayRequest, create_data, create_from, delete_data, delete_from, multi_from, op_at, part_by, part_data, part_from, request_data, request_from, request_of, set_data, set_from};
 
+use crate::object::Object;
 use crate::reading::{bytes_at, expected_at, flag_at, path_at, text_at};
 use crate::version::Version;
 use crate::writing::{text_of_bytes, text_of_path};
@@ -102,8 +103,10 @@ pub(crate) fn request_value(alloc: Global, request: &Request) -> Result<Value, N
         }
         Request::Multi(parts) => {
             let parts = parts_value(alloc, parts.as_slice())?;
-            let value = json!(in alloc; {"parts": &parts, "t": "multi"})?;
-            Ok(value)
+            let object = Object::new(alloc)
+                .with(alloc, "parts", parts)?
+                .with_text(alloc, "t", "multi")?;
+            Ok(object.value())
         }
     }
 }

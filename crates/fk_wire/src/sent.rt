@@ -8,12 +8,13 @@ ghost use Rattle.fk_wire.specs.declared.version.Version.TheVariants as version;
 
 use crate::fault::WireFault;
 use crate::message::Sent;
+use crate::object::Object;
 use crate::op::{op_at, request_value};
 use crate::reading::{NUMBERS, number_at, value_of, version_from};
 use crate::version::Version;
 use crate::writing::{is_same, text_of};
 use fk_base::{Bytes, NoMemory};
-use serde_json::{Value, json};
+use serde_json::Value;
 use std::alloc::Global;
 
 fn sent_value(alloc: Global, version: Version, message: &Sent) -> Result<Value, NoMemory>
@@ -21,9 +22,11 @@ fn sent_value(alloc: Global, version: Version, message: &Sent) -> Result<Value, 
     ensures typed { IfOk result (λ value. IsTypedSent message.now) }
 {
     let op = request_value(alloc, &message.request)?;
-    let version = version.number();
-    let value = json!(in alloc; {"op": &op, "seen": message.seen, "v": version})?;
-    Ok(value)
+    let object = Object::new(alloc)
+        .with(alloc, "op", op)?
+        .with_number(alloc, "seen", message.seen)?
+        .with_number(alloc, "v", version.number())?;
+    Ok(object.value())
 }
 
 /// The message of which a value has the fields.

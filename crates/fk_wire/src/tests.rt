@@ -1,3 +1,6 @@
+ghost use Rattle.std.specs.Prelude.{IfOk};
+ghost use Rattle.fk_wire.specs.Limits.{IsLimitedRequest};
+
 use crate::{Pushed, Sent, WireFault, decode_pushed, decode_send, encode_pushed, encode_send};
 use fk_base::{Bytes, NoMemory, Path, PathFault};
 use fk_tree::Request;
@@ -34,7 +37,10 @@ fn is_malformed<T: Drop>(decoded: Result<T, WireFault>) -> bool {
     }
 }
 
-fn create(alloc: Global) -> Result<Request, PathFault> {
+/// A create within the limits.
+fn create(alloc: Global) -> Result<Request, PathFault>
+    ensures { IfOk result IsLimitedRequest }
+{
     let Ok(bytes) = Bytes::from_slice(alloc, b"hi") else {
         return Err(PathFault::NoMemory);
     };
