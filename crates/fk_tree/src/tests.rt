@@ -183,8 +183,10 @@ fn copies_lists(rt: HostRuntime) -> Result<(), Fail> {
     Ok(())
 }
 
-/// A node is made with a child, and the child is deleted.
-fn parts(alloc: Global) -> Result<Parts, Fail> {
+/// A node is made with a child, the child is deleted, and the node is set.
+fn several(alloc: Global) -> Result<Request, Fail>
+    ensures { IfOk result (λ r. HasFewParts r) }
+{
     let mut parts = Parts::new(alloc);
     parts.push(make(alloc, "/a")?)?;
     parts.push(make(alloc, "/a/b")?)?;
@@ -197,13 +199,13 @@ fn parts(alloc: Global) -> Result<Parts, Fail> {
         bytes: Bytes::new(alloc),
         version: 0,
     })?;
-    Ok(parts)
+    Ok(Request::Multi(parts))
 }
 
 /// What a multi does: its replies, its touches and edits, and the new node's version of its children.
 fn multi(alloc: Global) -> Result<(usize, usize, usize, u32), Fail> {
     let mut tree = Tree::new(alloc)?;
-    let request = Request::Multi(parts(alloc)?);
+    let request = several(alloc)?;
     tree.check(1, &request)?;
     let applied = tree.fill(1, 11, 1, 1, &request)?;
     let replies = match tree.apply(&applied)? {
