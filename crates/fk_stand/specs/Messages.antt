@@ -1,5 +1,5 @@
 -- The messages that lines of a history put into lanes.
-use Rattle.std.specs.Prelude.{ℕ, ◌==◌, Bool, true, false, if◌then◌else◌, List, [], ◌∷◌, map, option_map, option_and_then, Option, Some, None}
+use Rattle.std.specs.Prelude.{ℕ, ◌==◌, if◌then◌else◌, List, [], ◌∷◌, map, option_map, option_and_then, Option, Some, None}
 use Rattle.fk_base.specs.Path.{PathNames}
 use Rattle.fk_tree.specs.Fill.{fill_name, fill_version, fill_made}
 use Rattle.fk_tree.specs.declared.request.Request.{Request}

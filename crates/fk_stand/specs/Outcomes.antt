@@ -1,12 +1,9 @@
 -- What the services hold in worked runs that end otherwise: a refusal, a lock that was lost, an eviction, and several
 -- parts as one request. The messages are written out by hand as the format of messages says them.
-use Rattle.std.specs.Prelude.{◌≡◌, ℕ, true, false, List, [], ◌∷◌, codes, drop, Some, None}
-use Rattle.fk_base.specs.Path.{PathNames}
+use Rattle.std.specs.Prelude.{◌≡◌, ℕ, true, false, List, [], ◌∷◌, codes, drop, None}
 use Rattle.fk_base.specs.declared.code.Code.TheVariants as code
-use Rattle.fk_print.specs.declared.entry.Entry.{Entry}
 use Rattle.fk_queue.specs.declared.lane.Lane.TheVariants as lane
 use Rattle.fk_queue.specs.declared.letter.Letter.{Letter}
-use Rattle.fk_store.specs.declared.lock.Lock.{Lock}
 use Rattle.fk_store.specs.declared.outcome.Outcome.TheVariants as kept
 use Rattle.fk_store.specs.declared.session_record.SessionRecord.{SessionRecord}
 use Rattle.fk_spec.specs.Eviction as eviction

@@ -1,6 +1,5 @@
 -- What the user storage and the table of watches hold after a history.
 use Rattle.std.specs.Prelude.{ℕ, ◌==◌, false, if◌then◌else◌, List, [], ◌∷◌, option_map, Option, Some, None}
-use Rattle.fk_base.specs.Path.{PathNames}
 use Rattle.fk_print.specs.declared.entry.Entry.{Entry}
 use Rattle.fk_user.specs.Meaning as user
 use Rattle.fk_watch.specs.declared.watch.Watch.{Watch}

@@ -1,5 +1,5 @@
 -- What the conditional table holds after a history.
-use Rattle.std.specs.Prelude.{ℕ, ◌==◌, nat_le, Bool, true, false, if◌then◌else◌, ◌&&◌, ◌||◌, not, List, [], ◌∷◌, ◌++◌, length, Option, Some, None, is_some}
+use Rattle.std.specs.Prelude.{ℕ, nat_le, Bool, false, if◌then◌else◌, ◌&&◌, ◌||◌, not, List, [], ◌∷◌, ◌++◌, length, Option, Some, None, is_some}
 use Rattle.fk_base.specs.Path.{PathNames, is_root}
 use Rattle.fk_print.specs.declared.entry.Entry.{Entry}
 use Rattle.fk_print.specs.declared.op.Op.{Op}
@@ -11,6 +11,7 @@ use Rattle.fk_store.specs.declared.outcome.Outcome.TheVariants as kept
 use Rattle.fk_store.specs.declared.session_record.SessionRecord.{SessionRecord}
 use Rattle.fk_store.specs.Locks.{no_lock}
 use Rattle.fk_store.specs.Meaning.{Meaning}
+use Rattle.fk_store.specs.Writes.{without}
 use Rattle.fk_spec.specs.Plan.{Plan}
 use Rattle.fk_spec.specs.Start.{is_session}
 use Rattle.fk_spec.specs.Locks.{Grant, Loss, last_grant, has_released}
@@ -46,10 +47,6 @@ kept_as (Some (settling.Committed tx)) = kept.Applied tx
 kept_as (Some (settling.Refused code place at)) = kept.Refused code at place
 kept_as (Some (settling.Passed None)) = kept.Nothing
 kept_as (Some (settling.Passed (Some x))) = lost_as x
-
-abbrev pub without : ℕ → List ℕ → List ℕ
-without t [] = []
-without t (n ∷ ns) = if n == t then without t ns else n ∷ without t ns
 
 abbrev pub pending_in : ℕ → List Entry → Op → List ℕ → List ℕ
 pending_in c h (op.CommitOk function tx) ts = if is_session c (session_of_push tx h) then ts ++ tx ∷ [] else ts

@@ -5,15 +5,11 @@ use Rattle.fk_tree.specs.declared.change.Change.TheVariants as change
 use Rattle.fk_tree.specs.declared.change.Kind.TheVariants as kind
 use Rattle.fk_tree.specs.declared.node.Node.{Node}
 use Rattle.fk_print.specs.declared.entry.Entry.{Entry}
-use Rattle.fk_queue.specs.declared.lane.Lane.{Lane}
 use Rattle.fk_queue.specs.declared.lane.Lane.TheVariants as lane
 use Rattle.fk_queue.specs.Letters.{LaneState}
-use Rattle.fk_store.specs.declared.node_record.NodeRecord.{NodeRecord}
 use Rattle.fk_store.specs.declared.outcome.Outcome.TheVariants as kept
 use Rattle.fk_store.specs.declared.session_record.SessionRecord.{SessionRecord}
-use Rattle.fk_user.specs.declared.records.UserRecord.{UserRecord}
 use Rattle.fk_watch.specs.declared.watch.Watch.{Watch}
-use Rattle.fk_watch.specs.declared.watch.Firing.{Firing}
 use Rattle.fk_spec.specs.Plan.{Plan, plan_of}
 use Rattle.fk_spec.specs.OwnWatch as own_watch
 use Rattle.fk_spec.specs.Scenarios.{creating, create_entries}
