@@ -144,35 +144,6 @@ noted_last (f ∷ es) e sets h a = step (is_edit_noted f sets) h (noted_last es 
 pub noted_step : (es : List Edit) (i : ℕ) (e : Edit) (sets others : Sets) → i < length es → e ≡ get_or es i e → KeepsNotes sets others → are_noted (take i es) sets ≡ true → is_edit_noted e others ≡ true → are_noted (take (i + 1) es) others ≡ true
 noted_step es i e sets others l s k h a = rw (take_more es i e l, ← s) (noted_last (take i es) e others (none_lost (take i es) sets others k h) a)
 
--- CREATING
--- the new node, and its name in the parent that was there before
-pub made_rows : (tx moment owner : ℕ) (p q : PathNames) (bytes : List ℕ) (n : Node) (rows before after : List Row)
-    → n ≡ with_names [] (fresh bytes owner tx moment)
-    → ((r : PathNames) → row_node r before ≡ row_node r rows)
-    → ((r : PathNames) → row_node r after ≡ cond (same_path r p) (Some n) (row_node r before))
-    → is_root p ≡ true → row_node q after ≡ edited tx moment q (create_edits p bytes owner) (row_node q rows)
-made_rows tx moment owner [] q bytes n rows before after e s u r = u q ∙ rw (s q, e) refl
-made_rows tx moment owner (x ∷ p) q bytes n rows before after e s u r = absurd (false≢true r)
-
-pub child_rows : (tx moment owner : ℕ) (p q : PathNames) (bytes : List ℕ) (n : Node) (rows before between after : List Row)
-    → n ≡ with_names [] (fresh bytes owner tx moment)
-    → ((r : PathNames) → row_node r before ≡ row_node r rows)
-    → ((r : PathNames) → row_node r between ≡ cond (same_path r (parent p)) (map_some (with_child (last_name p) tx) (row_node r before)) (row_node r before))
-    → ((r : PathNames) → row_node r after ≡ cond (same_path r p) (Some n) (row_node r between))
-    → is_root p ≡ false → row_node q after ≡ edited tx moment q (create_edits p bytes owner) (row_node q rows)
-child_rows tx moment owner [] q bytes n rows before between after m s u v r = absurd (false≢true (sym r))
-child_rows tx moment owner (x ∷ p) q bytes n rows before between after m s u v r =
-    v q
-    ∙ rw (u q, s q, m)
-    (by_test (same_path q (x ∷ p))
-    (λ b. cond b (Some (with_names [] (fresh bytes owner tx moment))) (cond (same_path q (parent (x ∷ p))) (map_some (with_child (last_name (x ∷ p)) tx) (row_node q rows)) (row_node q rows))
-    ≡ cond (same_path q (parent (x ∷ p))) (map_some (with_child (last_name (x ∷ p)) tx) (cond b (Some (with_names [] (fresh bytes owner tx moment))) (row_node q rows))) (cond b (Some (with_names [] (fresh bytes owner tx moment))) (row_node q rows)))
-    (λ e. rw (apart e) refl)
-    (λ _. refl))
-  where
-    apart : same_path q (x ∷ p) ≡ true → same_path q (parent (x ∷ p)) ≡ false
-    apart e = rw (same_path_is q (x ∷ p) e) (subst (λ r. same_path r (parent (x ∷ p)) ≡ false) (sym (child_parts x p)) (child_apart (parent (x ∷ p)) (last_name (x ∷ p))))
-
 -- a node that a session owns after edits was that session's, or is noted
 owned_edited : (s tx moment : ℕ) (p : PathNames) (sets : Sets) (es : List Edit) (o : Option Node) → 0 < s → are_noted es sets ≡ true → is_of s (edited tx moment p es o) ≡ true → (is_of s o ≡ true → is_noted s p sets ≡ true) → is_noted s p sets ≡ true
 owned_edited s tx moment p sets [] o l n h f = f h

@@ -1,4 +1,5 @@
 mod Alike
+mod Creating
 pub mod Deletes
 mod Gathering
 mod Indexing

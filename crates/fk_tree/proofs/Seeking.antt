@@ -64,6 +64,13 @@ place_in_list n (m ∷ ns) = step (is_gt (name_cmp n m)) (place_from 1 n ns) (pl
     step true x y e h = omega arith
     step false x y e h = omega arith
 
+-- a name above the last one has its place at the end
+pub place_above : (n : Name) (ns : List Name) (i : ℕ) (d : Name) → suc i ≡ length ns → rises name_cmp ns ≡ true → is_gt (name_cmp n (get_or ns i d)) ≡ true → length ns ≡ place_from 0 n ns
+place_above n ns i d l r e =
+    let low : i < place_from 0 n ns = place_low n ns i d (omega arith) r e in
+    let high : place_from 0 n ns ≤ length ns = place_in_list n ns in
+    omega arith
+
 -- a name that is there stands at its place
 there : (n : Name) (ns : List Name) (d : Name) → rises name_cmp ns ≡ true → has_name n ns ≡ true → (place_from 0 n ns < length ns) × (same_name n (get_or ns (place_from 0 n ns) d) ≡ true)
 there n [] d r h = absurd (false≢true h)

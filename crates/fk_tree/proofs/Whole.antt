@@ -1,22 +1,22 @@
 -- The tree that rows keep: what it shows, and what a request makes of it.
 use Rattle.std.proofs.Common.{◌≡◌, ◌<◌, ℕ, true, false, cond, List, ◌∷◌, Option, Some, None, refl, sym, ◌∙◌, ap}
+use Rattle.std.specs.Prelude.{is_some}
 use Rattle.std.specs.FinMap.{get}
 use Rattle.fk_base.specs.Path.{PathNames, name_cmp, path_cmp, parent}
+use Rattle.fk_tree.specs.declared.node.Node.{Node}
 use Rattle.fk_tree.specs.declared.applied.Applied.{Applied}
 use Rattle.fk_tree.specs.declared.request.Request.{Request}
 use Rattle.fk_tree.specs.declared.request.Request.TheVariants as request
 use Rattle.fk_tree.specs.Sorted.{rises}
 use Rattle.fk_tree.specs.Tree.{Bare, Tree, children, with_names, map_some}
-use Rattle.fk_tree.specs.View.{is_in, look}
+use Rattle.fk_tree.specs.View.{View, is_in, look}
 use Rattle.fk_tree.specs.Edit.{closes, edited, effects}
 use Rattle.fk_tree.specs.Fill.{fill, fill_gone, fill_made, fill_name, fill_version, final_path, made_of}
 use Rattle.fk_tree.specs.Check.{check, check_create, check_open}
-use Rattle.fk_base.specs.declared.code.Code.TheVariants as code
 use Rattle.std.proofs.lemmas.Bool.{false≢true}
-use Rattle.fk_tree.proofs.Order.{by_test}
 use Rattle.fk_tree.specs.declared.applied.Made.{Made}
 use Rattle.fk_tree.specs.Apply.{apply, apply_nodes, IsFilled}
-use Rattle.fk_tree.specs.Rows.{Row, nodes_of, tree_of, names_of, shown, gone_from, AreEdited, AreNoted, AreRising, IsKept, KeepSame, IsOfChild, is_of}
+use Rattle.fk_tree.specs.Rows.{Row, row_node, nodes_of, tree_of, names_of, shown, gone_from, AreEdited, AreNoted, AreRising, IsKept, IsNew, KeepSame, IsOfChild, is_of}
 use Rattle.fk_tree.proofs.Notes.{Sets, those_are}
 use Rattle.fk_tree.proofs.Owning.{owned_is}
 use Rattle.fk_tree.proofs.Passing.{Passes, passed_open, passed_create, placed_none}
@@ -86,9 +86,28 @@ filled rows sets closed tx moment s k r same name version gone made kept l e n v
     let v_is : look (tree_of rows closed) ≡ shown rows (λ c. is_in c closed) = looks rows sets closed kept in
     λ i. record { tx = tx; moment = moment; session = s; k = k; request = e i; name = (n ∙ ap (λ w. fill_name w r) (sym v_is)) i; version = (v ∙ ap (λ w. fill_version w r) (sym v_is)) i; gone = (gone_is rows sets s r gone kept l u g) i; made = (m ∙ ap (λ w. fill_made w s r) (sym v_is)) i }
 
+none_of : (o : Option Node) → is_some o ≡ false → o ≡ None
+none_of None e = refl
+none_of (Some n) e = absurd (false≢true (sym e))
+
+-- a create that passes is of a free path
+new_for : (t : Tree) (rows : List Row) (s : ℕ) (r : Request) (name : PathNames) → ((p : PathNames) → row_node p rows ≡ (look t).node p) → check (look t) s r ≡ None → name ≡ fill_name (look t) r → IsNew r name rows
+new_for t rows s (request.Create p bytes seq eph) name h c e =
+    let passed : Passes (look t) p (final_path p seq (made_of ((look t).node (parent p)))) = passed_create (look t) p seq (placed_none 0 (check_create (look t) p seq) (passed_open (look t) s (request.Create p bytes seq eph) c)) in
+    h name ∙ ap (look t).node e ∙ none_of ((look t).node (final_path p seq (made_of ((look t).node (parent p))))) passed.free
+new_for t rows s (request.Set p bytes version) name h c e = tt
+new_for t rows s (request.Delete p version) name h c e = tt
+new_for t rows s (request.Close evict) name h c e = tt
+new_for t rows s (request.Multi ps) name h c e = tt
+
+pub new_path : (rows : List Row) (sets : Sets) (closed : List ℕ) (a : Applied) → IsKept rows sets → IsFilled (tree_of rows closed) a → IsNew a.request a.name rows
+new_path rows sets closed a k f = new_for (tree_of rows closed) rows a.session a.request a.name k.named f.passes (ap (λ b. b.name) f.filled)
+
 -- CHECKING
+-- on the view of the tree that the rows keep
+pub checked : (rows : List Row) (sets : Sets) (closed : List ℕ) (t : Tree) (s : ℕ) (r : Request) → IsKept rows sets → tree_of rows closed ≡ t → check_open (shown rows (λ c. is_in c closed)) s r ≡ check_open (look t) s r
+checked rows sets closed t s r k e = ap (λ v. check_open v s r) (sym (looks rows sets closed k) ∙ ap look e)
+
 -- for a session that isn't closed
-pub checked : (rows : List Row) (sets : Sets) (closed : List ℕ) (t : Tree) (s : ℕ) (r : Request) → IsKept rows sets → tree_of rows closed ≡ t → (look t).closed s ≡ false → check_open (shown rows (λ c. is_in c closed)) s r ≡ check (look t) s r
-checked rows sets closed t s r k e f =
-    ap (λ v. check_open v s r) (sym (looks rows sets closed k) ∙ ap look e)
-    ∙ sym (by_test ((look t).closed s) (λ b. cond b (Some (record { code = code.SessionExpired; place = 0 })) (check_open (look t) s r) ≡ check_open (look t) s r) (λ g. absurd (false≢true (sym f ∙ g))) (λ _. refl))
+pub open_check : (v : View) (s : ℕ) (r : Request) → v.closed s ≡ false → check v s r ≡ check_open v s r
+open_check v s r e = rw e refl

@@ -113,6 +113,14 @@ IsOfChild (request.Delete p version) = Unit {0}
 IsOfChild (request.Close evict) = Unit {0}
 IsOfChild (request.Multi ps) = Unit {0}
 
+-- the final path of a create has no node yet
+abbrev pub IsNew : Request → PathNames → List Row → Type 0
+IsNew (request.Create p bytes seq eph) name rows = row_node name rows ≡ None
+IsNew (request.Set p bytes version) name rows = Unit {0}
+IsNew (request.Delete p version) name rows = Unit {0}
+IsNew (request.Close evict) name rows = Unit {0}
+IsNew (request.Multi ps) name rows = Unit {0}
+
 -- the noted paths that a close removes, else none
 abbrev pub gone_from : List Row → BTreeMap ℕ (BTreeSet PathNames) → ℕ → Request → List PathNames
 gone_from rows sets session (request.Close evict) = those_of session rows (noted session sets)

@@ -34,7 +34,8 @@ pub fn check_open(
     }
 }
 
-fn answer(code: Option<Code>) -> Result<(), CheckFault>
+/// Passes without a code.
+pub fn answer(code: Option<Code>) -> Result<(), CheckFault>
     ensures passes { OnOk result (code ≡ None) }
     ensures refused { IfErr result (λ e. IsFault e (at_place 0 code)) }
 {

@@ -53,9 +53,22 @@ pub fn drop_name(names: &mut Names, name: &Text)
     }
 }
 
-/// The place of the first name that isn't below this one, among names that rise.
-#[tactic(auto, using(crate::proofs::Seeking::place_low, crate::proofs::Seeking::place_high))]
+/// The place of the first name that isn't below this one, among names that rise: in constant time
+/// above all of them, else in logarithmic time.
+#[tactic(auto, using(crate::proofs::Seeking::place_above))]
 pub fn sorted_place(names: &[Text], name: &Text) -> usize
+    requires { rises name_cmp names.now ≡ true }
+    ensures { result ≡ place_from 0 name.now names.now }
+{
+    match names.last() {
+        None => 0,
+        Some(last) if name.cmp(last).is_gt() => names.len(),
+        Some(_) => halved_place(names, name),
+    }
+}
+
+#[tactic(auto, using(crate::proofs::Seeking::place_low, crate::proofs::Seeking::place_high))]
+fn halved_place(names: &[Text], name: &Text) -> usize
     requires { rises name_cmp names.now ≡ true }
     ensures { result ≡ place_from 0 name.now names.now }
 {
@@ -70,6 +83,14 @@ pub fn sorted_place(names: &[Text], name: &Text) -> usize
         }
     }
     low
+}
+
+/// Whether a name is among names that rise.
+pub fn has_sorted(names: &[Text], name: &Text) -> bool
+    requires { rises name_cmp names.now ≡ true }
+    ensures { result ≡ has_name name.now names.now }
+{
+    seek(names, name).is_ok()
 }
 
 /// Where a name stands among names that rise, or where it belongs.

@@ -19,7 +19,7 @@ use fk_base::{NoMemory, Path, Paths};
 use std::alloc::Global;
 
 /// The final path of a create, else the root.
-pub fn final_name(alloc: Global, slots: &Slots, request: &Request) -> Result<Path, NoMemory>
+pub fn created_path(alloc: Global, slots: &Slots, request: &Request) -> Result<Path, NoMemory>
     ensures { (closed : ℕ → Bool) → IsOfChild request.now → IfOk result (λ p. p ≡ fill_name (shown slots.now.entries closed) request.now) }
 {
     match request {

@@ -1,8 +1,8 @@
 //! The final path of a create.
 
-ghost use Rattle.std.specs.Prelude.{◌≡◌, ◌+◌, ◌<◌, ◌∷◌, [], ◌++◌, false, true, IfOk, OnOk};
+ghost use Rattle.std.specs.Prelude.{◌≡◌, ◌+◌, ◌<◌, ◌∷◌, [], ◌++◌, false, true, if◌then◌else◌, IfOk, OnOk};
 ghost use Rattle.fk_base.specs.Path.{is_root};
-ghost use Rattle.fk_tree.specs.Fill.{final_path, last_digits};
+ghost use Rattle.fk_tree.specs.Fill.{digits, final_path, last_digits};
 
 use crate::effect_list::parent_and_name;
 use fk_base::{NoMemory, Path, Text};
@@ -24,14 +24,24 @@ fn numbered(path: &Path, made: u32) -> Result<Path, NoMemory>
     requires { is_root path.now ≡ false }
     ensures { IfOk result (λ p. p ≡ final_path path.now true made) }
 {
-    let Some((parent, mut name)) = parent_and_name(path)? else {
+    let Some((parent, name)) = parent_and_name(path)? else {
         return path.copy();
     };
-    push_digits(&mut name, 10, made)?;
+    let name = final_name(name, true, made)?;
     match parent.child(name.as_str()) {
         Ok(path) => Ok(path),
         Err(_) => Err(NoMemory),
     }
+}
+
+/// The last name of the path that a create makes under a parent with this count.
+pub fn final_name(mut name: Text, seq: bool, made: u32) -> Result<Text, NoMemory>
+    ensures { IfOk result (λ n. n ≡ (if seq then name ++ digits made else name)) }
+{
+    if seq {
+        push_digits(&mut name, 10, made)?;
+    }
+    Ok(name)
 }
 
 // the last digits of a number, with zeros in front

@@ -73,6 +73,16 @@ pub fn add_slot(slots: &mut Slots, path: &Path) -> Result<(), NoMemory>
     Ok(())
 }
 
+/// Puts a node at a path.
+#[tactic(auto, using(crate::proofs::Looking::updated_node))]
+pub fn add_node(slots: &mut Slots, path: &Path, node: Node) -> Result<(), NoMemory>
+    ensures ok { OnOk result ((p : PathNames) → row_node p slots.new.entries ≡ (if same_path p path.now then Some node else row_node p slots.old.entries)) }
+    ensures err { OnErr result (KeepSame slots.old.entries slots.new.entries) }
+{
+    slots.insert(path.copy()?, Some(node))?;
+    Ok(())
+}
+
 /// Puts a node, or none, in place of what is there.
 #[tactic(auto, using(crate::proofs::Looking::updated_node, crate::proofs::Looking::updated_row, crate::proofs::Looking::row_there))]
 pub fn put(slots: &mut Slots, path: &Path, node: Option<Node>)

@@ -1,21 +1,24 @@
 ghost use Rattle.std.specs.Prelude.{◌≡◌, ◌<◌, false, IfErr, IfOk, MatchOption, None, OnErr, OnOk};
 ghost use Rattle.fk_tree.specs.Apply.{apply, reply_of, IsFilled};
 ghost use Rattle.fk_tree.specs.Ask.{ask};
-ghost use Rattle.fk_tree.specs.Check.{check, HasFewParts, IsFault};
+ghost use Rattle.fk_tree.specs.Check.{check, check_create, check_open, HasFewParts, IsFault};
 ghost use Rattle.fk_tree.specs.Fill.{fill};
 ghost use Rattle.fk_tree.specs.Tree.{start_tree};
 ghost use Rattle.fk_tree.specs.View.{look};
 
 use crate::applied::Applied;
-use crate::checking::check_open;
-use crate::effect_list::effects;
+use crate::checking::{answer, check_open};
+use crate::child_names::has_sorted;
+use crate::codes::create_code;
+use crate::effect_list::{effects, parent_and_name};
 use crate::fault::CheckFault;
-use crate::filling::{final_name, gone, made, new_version};
+use crate::filling::{created_path, gone, made, new_version};
 use crate::node::Node;
 use crate::owners::Owners;
 use crate::replies::reply_to;
 use crate::reply::{Answer, Reply};
 use crate::request::{Query, Request};
+use crate::sequence::final_name;
 use crate::slots::{Slots, node_at, root_slots};
 use crate::writes::{note_makes, write};
 use fk_base::{Code, NoMemory, Path};
@@ -71,7 +74,7 @@ impl Tree {
                 place: 0,
             });
         }
-        check_open(self.allocator(), &self.slots, session, request)
+        self.check_open(session, request)
     }
 
     /// A request that passes as it is applied to this tree.
@@ -94,7 +97,7 @@ impl Tree {
             session,
             k,
             request: request.copy()?,
-            name: final_name(alloc, &self.slots, request)?,
+            name: created_path(alloc, &self.slots, request)?,
             version: new_version(&self.slots, request),
             gone: gone(alloc, &self.owners, &self.slots, session, request)?,
             made: made(alloc, &self.slots, session, request)?,
@@ -142,6 +145,38 @@ impl Tree {
 
     fn allocator(&self) -> Global {
         *self.closed.allocator()
+    }
+
+    // for a session that isn't closed
+    fn check_open(&self, session: u32, request: &Request) -> Result<(), CheckFault>
+        requires session { 0 < session }
+        requires parts { HasFewParts request.now }
+        ensures passes { OnOk result (check_open (look self.now) session request.now ≡ None) }
+        ensures refused { IfErr result (λ e. IsFault e (check_open (look self.now) session request.now)) }
+    {
+        match request {
+            Request::Create { path, seq, .. } => answer(self.create_code(path, *seq)?),
+            Request::Set { .. }
+            | Request::Delete { .. }
+            | Request::Close { .. }
+            | Request::Multi(_) => check_open(self.allocator(), &self.slots, session, request),
+        }
+    }
+
+    // a create's final path is taken where the parent has a child of its name
+    #[tactic(auto, using(crate::proofs::Refusing::root_is_there, crate::proofs::Refusing::parent_is_missing, crate::proofs::Refusing::child_is_there, crate::proofs::Refusing::children_rise))]
+    fn create_code(&self, path: &Path, seq: bool) -> Result<Option<Code>, NoMemory>
+        ensures { IfOk result (λ c. c ≡ check_create (look self.now) path.now seq) }
+    {
+        let Some((parent, name)) = parent_and_name(path)? else {
+            return Ok(Some(Code::NodeExists));
+        };
+        let Some(parent) = self.node(&parent) else {
+            return Ok(Some(Code::NoNode));
+        };
+        let name = final_name(name, seq, parent.made)?;
+        let taken = has_sorted(parent.names.as_slice(), &name);
+        Ok(create_code(Some(parent), taken))
     }
 
     fn is_closed(&self, session: u32) -> bool

@@ -4,7 +4,7 @@ ghost use Rattle.std.specs.Prelude.{◌≡◌, ◌∷◌, ◌<◌, ℕ, false, t
 ghost use Rattle.fk_base.specs.Path.{PathNames, is_root, last_name, parent, same_path};
 ghost use Rattle.fk_tree.specs.Edit.{closes, create_edits, edit, edited, effects, with_child};
 ghost use Rattle.fk_tree.specs.Tree.{map_some};
-ghost use Rattle.fk_tree.specs.Rows.{are_drops, are_noted, changes_by, changes_have_rows, has_row, have_rows, is_drop, is_edit_noted, row_node, written, AreEdited, AreNoted, AreRising, KeepSame, KeepsNotes, StaysNoted};
+ghost use Rattle.fk_tree.specs.Rows.{are_drops, are_noted, changes_by, changes_have_rows, has_row, have_rows, is_drop, is_edit_noted, row_node, written, AreEdited, AreNoted, AreRising, IsNew, KeepSame, KeepsNotes, StaysNoted};
 
 use crate::applied::Applied;
 use crate::edit::{Edit, What};
@@ -14,13 +14,13 @@ use crate::node_edit::{edit_node, fresh_node};
 use crate::owners::{Owners, forget, note};
 use crate::request::Request;
 use crate::slots::{
-    Changed, Slots, add_name, add_slot, drop_name, node_at, put, remove, set_bytes,
+    Changed, Slots, add_name, add_node, add_slot, drop_name, node_at, put, remove, set_bytes,
 };
 use fk_base::{Bytes, NoMemory, Path};
 use std::alloc::Global;
 
-/// A new node, and its name in the parent.
-#[tactic(auto, using(crate::proofs::Keeping::made_rows, crate::proofs::Keeping::child_rows))]
+/// A new node at a free path, and its name in the parent.
+#[tactic(auto, using(crate::proofs::Creating::made_rows, crate::proofs::Creating::child_rows, crate::proofs::Creating::rising_with, crate::proofs::Creating::undone))]
 pub fn create(
     slots: &mut Slots,
     path: &Path,
@@ -29,15 +29,20 @@ pub fn create(
     tx: u64,
     moment: u64,
 ) -> Result<(), NoMemory>
-    requires { AreRising slots.old.entries }
+    requires rising { AreRising slots.old.entries }
+    requires free { row_node path.now slots.old.entries ≡ None }
     ensures ok { OnOk result (AreEdited tx moment (create_edits path.now bytes.now owner) slots.old.entries slots.new.entries) }
     ensures err { OnErr result (KeepSame slots.old.entries slots.new.entries) }
 {
     let node = fresh_node(bytes, owner, tx, moment)?;
-    add_slot(slots, path)?;
-    name_in_parent(slots, path, tx)?;
-    put(slots, path, Some(node));
-    Ok(())
+    add_node(slots, path, node)?;
+    match name_in_parent(slots, path, tx) {
+        Ok(()) => Ok(()),
+        Err(NoMemory) => {
+            remove(slots, path);
+            Err(NoMemory)
+        }
+    }
 }
 
 // puts the name of a path to its parent; the root has none
@@ -232,6 +237,7 @@ pub fn write(
     requires edits { edits.now ≡ effects applied.now }
     requires noted { are_noted edits.now owners.old ≡ true }
     requires rising { AreRising slots.old.entries }
+    requires free { IsNew applied.now.request applied.now.name slots.old.entries }
     ensures ok { OnOk result (AreEdited applied.now.tx applied.now.moment (effects applied.now) slots.old.entries slots.new.entries) }
     ensures closed { OnOk result (closed.new.items ≡ (if closes applied.now.request then applied.now.session ∷ closed.old.items else closed.old.items)) }
     ensures err { OnErr result (KeepSame slots.old.entries slots.new.entries) }

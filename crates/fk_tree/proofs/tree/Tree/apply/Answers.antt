@@ -1,11 +1,14 @@
 use Rattle.std.proofs.Common.{subst, sym, ◌∙◌, ap}
 use Rattle.fk_tree.specs.Apply.{apply, IsFilled}
 use Rattle.fk_tree.proofs.Keeping.{any_err, more_noted}
-use Rattle.fk_tree.proofs.Whole.{rising, applied_kept, applied_tree, same_tree, still_kept}
+use Rattle.fk_tree.proofs.Whole.{new_path, rising, applied_kept, applied_tree, same_tree, still_kept}
 use Rattle.fk_tree.proofs.tree.Tree.apply.Goals as goal
 
 pub write-requires-clause-rising : goal.write-requires-clause-rising
 write-requires-clause-rising c = rising c.self.inside.slots.entries c.self.inside.owners c.self.invariant
+
+pub write-requires-clause-free : goal.write-requires-clause-free
+write-requires-clause-free c = new_path c.self.inside.slots.entries c.self.inside.owners c.self.inside.closed.items c.args.applied.now c.self.invariant (subst (λ t. IsFilled t c.args.applied.now) (sym c.self.view_is) c.requires.filled)
 
 pub invariant_of-self-in_err-write : goal.invariant_of-self-in_err-write
 invariant_of-self-in_err-write c =

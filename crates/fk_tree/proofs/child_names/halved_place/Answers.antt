@@ -1,6 +1,6 @@
 use Rattle.std.proofs.Common.{◌+◌, ◌-◌, ◌/◌, arith}
 use Rattle.fk_tree.proofs.Seeking.{place_high, place_in_list, place_low}
-use Rattle.fk_tree.proofs.child_names.sorted_place.Goals as goal
+use Rattle.fk_tree.proofs.child_names.halved_place.Goals as goal
 
 pub halving-init : goal.halving-init
 halving-init c = (grind arith, place_in_list c.args.name.now c.args.names.now, grind arith)
