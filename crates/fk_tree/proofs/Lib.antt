@@ -1,5 +1,6 @@
 mod Alike
 pub mod Deletes
+pub mod Editing
 mod Gathering
 mod Indexing
 mod Keeping
