@@ -1,7 +1,6 @@
 //! Records under their paths.
 
 ghost use Rattle.std.specs.Prelude.{◌≡◌, [], ◌∷◌, true, if◌then◌else◌, IfOk, OnOk, OnErr};
-ghost use Rattle.std.specs.Option.{option_copied};
 ghost use Rattle.fk_base.specs.Path.{PathNames, name_cmp, same_path};
 ghost use Rattle.fk_tree.specs.Rows.{names_of};
 ghost use Rattle.fk_tree.specs.Sorted.{rises};

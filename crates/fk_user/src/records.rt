@@ -1,9 +1,8 @@
 //! The records of paths, whose nodes' child names rise.
 
-ghost use Rattle.std.specs.Prelude.{◌≡◌, [], ◌∷◌, true, if◌then◌else◌, IfOk, OnOk, OnErr};
+ghost use Rattle.std.specs.Prelude.{◌≡◌, [], ◌∷◌, true, IfOk, OnOk, OnErr};
 ghost use Rattle.std.specs.Option.{option_copied};
-ghost use Rattle.fk_base.specs.Path.{PathNames, same_path};
-ghost use Rattle.fk_user.specs.Meaning.{put_record, root_record};
+ghost use Rattle.fk_user.specs.Meaning.{root_record};
 ghost use Rattle.fk_user.specs.Own.{are_own};
 ghost use Rattle.fk_user.specs.Records.{record_at, record_in, IsEdited, KeepsRecords};
 

@@ -1,5 +1,5 @@
-ghost use Rattle.std.specs.Prelude.{◌≡◌, true, false, IfOk, OnOk, OnErr};
-ghost use Rattle.fk_user.specs.Meaning.{armed, called, calmed, new_store, published, with_put};
+ghost use Rattle.std.specs.Prelude.{◌≡◌, true, false, IfOk};
+ghost use Rattle.fk_user.specs.Meaning.{armed, called, calmed, new_store};
 ghost use Rattle.fk_user.specs.Answers.{after_publish, after_put, IsLook, IsPublish, IsPut, IsRead};
 ghost use Rattle.fk_user.specs.Own.{are_own};
 ghost use Rattle.fk_user.specs.Stored.{store_of};
