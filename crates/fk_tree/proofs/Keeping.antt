@@ -102,7 +102,7 @@ drops_at (e ∷ es) (suc i) d l h = let shorter : i < length es = omega arith in
     rest true h = h
     rest false h = absurd (false≢true h)
 
-dropped_rise : (x : Name) (tx : ℕ) (o : Option Node) → rises name_cmp (names_of o) ≡ true → rises name_cmp (names_of (map_some (without_child x tx) o)) ≡ true
+pub dropped_rise : (x : Name) (tx : ℕ) (o : Option Node) → rises name_cmp (names_of o) ≡ true → rises name_cmp (names_of (map_some (without_child x tx) o)) ≡ true
 dropped_rise x tx None h = refl
 dropped_rise x tx (Some n) h = step (has_name x n.names)
   where

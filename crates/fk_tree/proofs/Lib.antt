@@ -1,6 +1,7 @@
 mod Alike
 mod Creating
 pub mod Deletes
+pub mod Editing
 mod Gathering
 mod Indexing
 mod Keeping

@@ -41,6 +41,35 @@ pub fn edit_node(
     }
 }
 
+/// The same of a node whose child names rise, in logarithmic time but for what an insertion into a list
+/// moves.
+#[tactic(auto, using(crate::proofs::Editing::added_rise, crate::proofs::Keeping::dropped_rise))]
+pub fn edit_sorted(
+    node: &mut Option<Node>,
+    change: &Edit,
+    tx: u64,
+    moment: u64,
+) -> Result<(), NoMemory>
+    requires { rises name_cmp (names_of node.old) ≡ true }
+    ensures ok { OnOk result (node.new ≡ edit tx moment change.now.what node.old) }
+    ensures err { OnErr result (node.new ≡ node.old) }
+    ensures rising { rises name_cmp (names_of node.new) ≡ true }
+{
+    match &change.what {
+        What::AddName(name) => {
+            add_sorted(node, name, tx)?;
+            Ok(())
+        }
+        What::DropName(name) => {
+            drop_sorted(node, name, tx);
+            Ok(())
+        }
+        What::Make { .. } => edit_node(node, change, tx, moment),
+        What::Replace(_) => edit_node(node, change, tx, moment),
+        What::Remove => edit_node(node, change, tx, moment),
+    }
+}
+
 pub fn fresh_node(bytes: &Bytes, owner: u32, tx: u64, moment: u64) -> Result<Node, NoMemory>
     ensures { IfOk result (λ n. n ≡ with_names [] (fresh bytes.now owner tx moment)) }
 {

@@ -1,19 +1,21 @@
 -- What is put in place of a record.
 use Rattle.std.proofs.Common.{◌≡◌, ℕ, zero, suc, ◌+◌, ◌<◌, Bool, true, false, cond, List, [], ◌∷◌, Option, Some, length, drop, get_or, refl, sym, ◌∙◌, ap, arith, drop-cons}
+use Rattle.std.specs.Prelude.{Result, Ok, Err, OnOk, OnErr}
 use Rattle.std.specs.BTreeMap.{BTreeMap, get, is_at}
 use Rattle.fk_base.specs.Path.{PathNames, path_cmp, same_path}
 use Rattle.fk_tree.specs.Edit.{edit, edited}
 use Rattle.fk_tree.specs.declared.edit.Edit.{Edit}
 use Rattle.fk_tree.specs.declared.node.Node.{Node}
 use Rattle.fk_tree.proofs.Order.{and_left, and_right, by_test, same_path_is, same_path_self}
-use Rattle.fk_user.specs.declared.records.UserRecord.{UserRecord}
+use Rattle.fk_user.specs.declared.record.UserRecord.{UserRecord}
 use Rattle.fk_user.specs.declared.user_store.UserStore.{UserStore}
 use Rattle.fk_user.specs.Meaning.{Meaning, put_record, with_put}
 use Rattle.fk_user.specs.Own.{are_own}
-use Rattle.fk_user.specs.Stored.{or_no_record, record_in, store_of}
+use Rattle.fk_user.specs.Records.{or_no_record, record_in, IsEdited, KeepsRecords}
+use Rattle.fk_user.specs.Stored.{store_of}
 
-abbrev pub Records : Type 0
-Records = BTreeMap PathNames UserRecord
+abbrev pub RecordMap : Type 0
+RecordMap = BTreeMap PathNames UserRecord
 
 -- the same both ways
 same_flip : (p q : PathNames) → same_path p q ≡ same_path q p
@@ -22,8 +24,8 @@ same_flip p q = by_test (same_path p q) (λ b. b ≡ same_path q p)
     (λ e. by_test (same_path q p) (λ b. false ≡ b) (λ f. sym e ∙ rw (same_path_is q p f) (same_path_self p)) (λ _. refl))
 
 -- one path has this record, and the others keep theirs
-pub updated_record : (m n : Records) (k : PathNames) (r : UserRecord) → ((q : PathNames) → get path_cmp n q ≡ cond (is_at (path_cmp k) q) (Some r) (get path_cmp m q))
-    → (q : PathNames) → record_in n q ≡ cond (same_path q k) r (record_in m q)
+pub updated_record : (m n : RecordMap) (k : PathNames) (r : UserRecord) → ((q : PathNames) → get path_cmp n q ≡ cond (is_at (path_cmp k) q) (Some r) (get path_cmp m q))
+    → (q : PathNames) → record_in n.entries q ≡ cond (same_path q k) r (record_in m.entries q)
 updated_record m n k r u q = ap or_no_record (u q) ∙ rw (same_flip k q) (step (same_path q k) (get path_cmp m q))
   where
     step : (b : Bool) (o : Option UserRecord) → or_no_record (cond b (Some r) o) ≡ cond b r (or_no_record o)
@@ -43,18 +45,65 @@ edits_step tx moment p es i e o h l s = step (i + 1) (omega arith)
     step : (j : ℕ) → j ≡ suc i → edited tx moment p (drop i es) o ≡ edited tx moment p (drop j es) (edit tx moment e.what o)
     step j t = let own : same_path p e.path ≡ true = rw s (on_at p es i e h l) in rw (t, drop-cons es i e l, ← s) (ap (λ b. edited tx moment p (drop (suc i) es) (cond b (edit tx moment e.what o) o)) own)
 
+-- the record after the edits is put
+pub put_after : (m n : RecordMap) (k : PathNames) (tx moment : ℕ) (es : List Edit) (r : UserRecord) → r ≡ put_record k tx moment es (record_in m.entries k)
+    → ((q : PathNames) → record_in n.entries q ≡ cond (same_path q k) r (record_in m.entries q))
+    → IsEdited m.entries n.entries k tx moment es
+put_after m n k tx moment es r a b q =
+    b q ∙ by_test (same_path q k) (λ t. cond t r (record_in m.entries q) ≡ cond t (put_record k tx moment es (record_in m.entries q)) (record_in m.entries q))
+    (λ s. a ∙ ap (λ x. put_record k tx moment es (record_in m.entries x)) (sym (same_path_is q k s)))
+    (λ _. refl)
+
+-- what follows where a call is done, or where it fails
+pub ok_so : {T E : Type 0} {A B : Type 0} (r : Result T E) → OnOk r A → (A → B) → OnOk r B
+ok_so (Ok x) a f = f a
+ok_so (Err x) a f = a
+
+pub err_so : {T E : Type 0} {A B : Type 0} (r : Result T E) → OnErr r A → (A → B) → OnErr r B
+err_so (Ok x) a f = a
+err_so (Err x) a f = f a
+
+-- WRITTEN WHERE IT STANDS
+-- the record of a path that was lent and written
+abbrev pub IsUpdated : RecordMap → RecordMap → PathNames → UserRecord → Type 0
+IsUpdated m n k w = (q : PathNames) → get path_cmp n q ≡ cond (is_at (path_cmp k) q) (Some w) (get path_cmp m q)
+
+-- one edit of a path's own leaves what a put of it does
+own_edit : (p : PathNames) (tx moment : ℕ) (e : Edit) (r : UserRecord) → are_own p (e ∷ []) ≡ true
+    → record { node = edit tx moment e.what r.node; stamp = tx } ≡ put_record p tx moment (e ∷ []) r
+own_edit p tx moment e r h = rw (and_left (same_path p e.path) true h) refl
+
+-- one record changes, by what was lent of it
+pub edited_there : (m n : RecordMap) (k : PathNames) (tx moment : ℕ) (e : Edit) (old new : UserRecord) → are_own k (e ∷ []) ≡ true
+    → Some old ≡ get path_cmp m k → IsUpdated m n k new → new ≡ record { node = edit tx moment e.what old.node; stamp = tx }
+    → IsEdited m.entries n.entries k tx moment (e ∷ [])
+edited_there m n k tx moment e old new h a u c q =
+    updated_record m n k new u q
+    ∙ by_test (same_path q k) (λ b. cond b new (record_in m.entries q) ≡ cond b (put_record k tx moment (e ∷ []) (record_in m.entries q)) (record_in m.entries q))
+    (λ t. c ∙ own_edit k tx moment e old h ∙ ap (put_record k tx moment (e ∷ [])) (ap or_no_record a ∙ ap (record_in m.entries) (sym (same_path_is q k t))))
+    (λ _. refl)
+
+-- it is put back as it was lent
+pub put_back : (m n : RecordMap) (k : PathNames) (old new : UserRecord) → Some old ≡ get path_cmp m k → IsUpdated m n k new → new ≡ old → KeepsRecords m.entries n.entries
+put_back m n k old new a u c q =
+    updated_record m n k new u q
+    ∙ by_test (same_path q k) (λ b. cond b new (record_in m.entries q) ≡ record_in m.entries q)
+    (λ t. c ∙ ap or_no_record a ∙ ap (record_in m.entries) (sym (same_path_is q k t)))
+    (λ _. refl)
+
 -- stores that have the same records, mark, epoch and counts mean the same
 same_meaning : (m n : Meaning) → ((p : PathNames) → m.records p ≡ n.records p) → m.mark ≡ n.mark → m.epoch ≡ n.epoch → m.armed ≡ n.armed → m.faults ≡ n.faults → m ≡ n
 same_meaning m n a b c d e = λ i. record { records = λ p. (a p) i; mark = b i; epoch = c i; armed = d i; faults = e i }
 
 -- a record was put after the edits of its path
-pub put_store : (p : PathNames) (tx moment : ℕ) (es : List Edit) (old new : UserStore) (r : UserRecord) → r ≡ put_record p tx moment es (record_in old.records p)
-    → ((q : PathNames) → record_in new.records q ≡ cond (same_path q p) r (record_in old.records q))
+pub put_store : (p : PathNames) (tx moment : ℕ) (es : List Edit) (old new : UserStore)
+    → IsEdited old.records new.records p tx moment es
     → new.mark ≡ old.mark → new.epoch ≡ old.epoch → new.armed ≡ old.armed → new.faults ≡ old.faults
     → store_of new ≡ with_put (store_of old) p tx moment es
-put_store p tx moment es old new r a b c d e f =
-    same_meaning (store_of new) (with_put (store_of old) p tx moment es)
-    (λ q. b q ∙ by_test (same_path q p) (λ t. cond t r (record_in old.records q) ≡ cond t (put_record p tx moment es (record_in old.records q)) (record_in old.records q))
-    (λ s. a ∙ ap (λ x. put_record p tx moment es (record_in old.records x)) (sym (same_path_is q p s)))
-    (λ _. refl))
-    c d e f
+put_store p tx moment es old new b c d e f = same_meaning (store_of new) (with_put (store_of old) p tx moment es) b c d e f
+
+-- no record changed
+pub same_store : (old new : UserStore) → KeepsRecords old.records new.records
+    → new.mark ≡ old.mark → new.epoch ≡ old.epoch → new.armed ≡ old.armed → new.faults ≡ old.faults
+    → store_of new ≡ store_of old
+same_store old new b c d e f = same_meaning (store_of new) (store_of old) b c d e f

@@ -6,7 +6,7 @@ use Rattle.fk_base.specs.Faults.{one_more}
 use Rattle.fk_tree.specs.Edit.{edited}
 use Rattle.fk_tree.specs.Tree.{root_node, with_names}
 use Rattle.fk_tree.specs.declared.edit.Edit.{Edit}
-use Rattle.fk_user.specs.declared.records.UserRecord.{UserRecord}
+use Rattle.fk_user.specs.declared.record.UserRecord.{UserRecord}
 
 pub record Meaning : Type 0 where
   pub records : PathNames → UserRecord

@@ -5,6 +5,8 @@
 mod answer;
 mod id_set;
 mod own;
+mod record;
+mod record_map;
 mod records;
 mod store_laws;
 #[cfg(test)]

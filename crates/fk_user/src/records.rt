@@ -1,105 +1,71 @@
-//! The records of paths.
+//! The records of paths, whose nodes' child names rise.
 
-ghost use Rattle.std.specs.Prelude.{◌≡◌, [], ◌∷◌, true, if◌then◌else◌, IfOk, OnOk, OnErr};
+ghost use Rattle.std.specs.Prelude.{◌≡◌, [], ◌∷◌, true, IfOk, OnOk, OnErr};
 ghost use Rattle.std.specs.Option.{option_copied};
-ghost use Rattle.fk_base.specs.Path.{PathNames, same_path};
-ghost use Rattle.fk_user.specs.Meaning.{put_record, root_record};
+ghost use Rattle.fk_user.specs.Meaning.{root_record};
 ghost use Rattle.fk_user.specs.Own.{are_own};
-ghost use Rattle.fk_user.specs.Stored.{record_in};
+ghost use Rattle.fk_user.specs.Records.{record_at, record_in, IsEdited, KeepsRecords};
 
-use fk_base::{Bytes, Names, NoMemory, Path};
-use fk_tree::{Edit, Node, edit_node};
+use crate::record::UserRecord;
+use crate::record_map::{put_edits, root_alone};
+use fk_base::{NoMemory, Path};
+use fk_tree::Edit;
 use std::alloc::Global;
 use std::collections::BTreeMap;
+use std::marker::Model;
 
-/// The node of a path, and the transaction that it stands at.
+/// The record of each path that has one.
 #[derive(Drop)]
-pub struct UserRecord {
-    pub node: Option<Node>,
-    pub stamp: u64,
+pub struct Records {
+    map: BTreeMap<Path, UserRecord>,
 }
 
-pub type Records = BTreeMap<Path, UserRecord>;
+impl Model for Records {
+    ghost use Rattle.fk_user.specs.Records as specs;
 
-/// The root's record alone, as it starts: no data, no child and all numbers 0.
-pub fn root_alone(alloc: Global) -> Result<Records, NoMemory>
-    ensures { IfOk result (λ records. records.entries ≡ ([], root_record) ∷ []) }
-{
-    let mut records = BTreeMap::new(alloc);
-    records.insert(Path::root(alloc), root_record(alloc))?;
-    Ok(records)
+    ghost Value = { specs.Records };
+
+    ghost view = { λ r. r.map.entries };
+
+    ghost invariant = { λ r. specs.AreRising r.map.entries };
 }
 
-fn root_record(alloc: Global) -> UserRecord
-    ensures { result ≡ root_record }
-{
-    let node = Node {
-        bytes: Bytes::new(alloc),
-        czxid: 0,
-        mzxid: 0,
-        pzxid: 0,
-        ctime: 0,
-        mtime: 0,
-        version: 0,
-        cversion: 0,
-        made: 0,
-        owner: 0,
-        names: Names::new(alloc),
-    };
-    UserRecord {
-        node: Some(node),
-        stamp: 0,
+impl Records {
+    /// The root's record alone, as it starts: no data, no child and all numbers 0.
+    #[tactic(auto, using(crate::proofs::Rising::root_rises))]
+    pub fn new(alloc: Global) -> Result<Records, NoMemory>
+        ensures { IfOk result (λ records. records ≡ ([], root_record) ∷ []) }
+    {
+        Ok(Records {
+            map: root_alone(alloc)?,
+        })
     }
-}
 
-/// The transaction that a path's record stands at.
-pub fn stamp_in(records: &Records, path: &Path) -> u64
-    ensures { result ≡ (record_in records.now path.now).stamp }
-{
-    match records.get(path) {
-        None => 0,
-        Some(kept) => kept.stamp,
+    pub fn get(&self, path: &Path) -> Option<&UserRecord>
+        ensures { option_copied result ≡ record_at self.now path.now }
+    {
+        self.map.get(path)
     }
-}
 
-// a copy of a path's node
-fn node_copy(records: &Records, path: &Path) -> Result<Option<Node>, NoMemory>
-    ensures { IfOk result (λ o. o ≡ (record_in records.now path.now).node) }
-{
-    match records.get(path) {
-        None => Ok(None),
-        Some(kept) => match &kept.node {
-            None => Ok(None),
-            Some(node) => Ok(Some(node.copy()?)),
-        },
+    /// The transaction that a path's record stands at.
+    pub fn stamp(&self, path: &Path) -> u64
+        ensures { result ≡ (record_in self.now path.now).stamp }
+    {
+        match self.map.get(path) {
+            None => 0,
+            Some(kept) => kept.stamp,
+        }
     }
-}
 
-/// The record of a path after edits of its node.
-#[tactic(auto, using(crate::proofs::Putting::edits_step))]
-pub fn record_after(
-    records: &Records,
-    path: &Path,
-    tx: u64,
-    moment: u64,
-    edits: &[Edit],
-) -> Result<UserRecord, NoMemory>
-    requires { are_own path.now edits.now ≡ true }
-    ensures { IfOk result (λ r. r ≡ put_record path.now tx moment edits.now (record_in records.now path.now)) }
-{
-    let mut node = node_copy(records, path)?;
-    'editing: for change in edits {
-        edit_node(&mut node, change, tx, moment)?;
+    /// Makes edits of a path's node and sets its stamp. One edit of a node that is there takes logarithmic
+    /// time, but for what an insertion into the list of its child names moves; else the node is copied.
+    #[tactic(auto, using(crate::proofs::Rising::kept_rise))]
+    pub fn put(&mut self, path: &Path, tx: u64, moment: u64, edits: &[Edit]) -> Result<(), NoMemory>
+        requires { are_own path.now edits.now ≡ true }
+        ensures ok { OnOk result (IsEdited self.old self.new path.now tx moment edits.now) }
+        ensures err { OnErr result (KeepsRecords self.old self.new) }
+    {
+        put_edits(&mut self.map, path, tx, moment, edits)?;
+        Ok(())
     }
-    Ok(UserRecord { node, stamp: tx })
-}
-
-/// Puts a record in place of what is there.
-#[tactic(auto, using(crate::proofs::Putting::updated_record))]
-pub fn put(records: &mut Records, path: &Path, kept: UserRecord) -> Result<(), NoMemory>
-    ensures ok { OnOk result ((p : PathNames) → record_in records.new p ≡ (if same_path p path.now then kept else record_in records.old p)) }
-    ensures err { OnErr result ((p : PathNames) → record_in records.new p ≡ record_in records.old p) }
-{
-    records.insert(path.copy()?, kept)?;
-    Ok(())
 }

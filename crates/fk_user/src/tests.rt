@@ -3,50 +3,66 @@ ghost use Rattle.fk_user.specs.Meaning.{called};
 ghost use Rattle.fk_user.specs.Stored.{store_of};
 
 use crate::{IdSet, Publish, PutRecord, UserLook, UserRead, UserStore, own_edits};
-use fk_base::{Bytes, NoMemory, Path, Paths};
-use fk_tree::{Applied, Edits, Mades, Request, effects};
+use fk_base::{Bytes, NoMemory, Path, Text};
+use fk_tree::{Edit, Edits, What};
 use std::alloc::Global;
 use std::test::Fail;
 
-/// A create, or a deletion, of a node with one byte.
-fn request(alloc: Global, word: &str, path: Path) -> Result<Request, NoMemory> {
-    if word == "delete" {
-        return Ok(Request::Delete { path, version: -1 });
-    }
-    Ok(Request::Create {
-        path,
-        bytes: Bytes::from_slice(alloc, b"A")?,
-        seq: false,
-        eph: false,
-    })
+#[derive(Clone, Copy)]
+enum Call {
+    /// Puts the edits of a create of `/x` that are the path's own.
+    Create,
+    /// The same of its deletion.
+    Delete,
+    /// Publishes the epoch of 5 and 3.
+    Publish,
+    /// The stamp of the path.
+    Stamp,
+    /// How many bytes and children the path shows, where it shows a node.
+    Size,
+    Mark,
+    /// The least number of the epoch.
+    Epoch,
+    Arm,
+    Calm,
+    Faults,
 }
 
-/// The edits of a create of `/x`, or of its deletion.
-fn edits(alloc: Global, word: &str) -> Result<Edits, Fail> {
-    let applied = Applied {
-        tx: 1,
-        moment: 5,
-        session: 1,
-        k: 1,
-        request: request(alloc, word, Path::parse(alloc, "/x")?)?,
-        name: Path::parse(alloc, "/x")?,
-        version: 0,
-        gone: Paths::new(alloc),
-        made: Mades::new(alloc),
+/// A call for a path, which is `/x` or the root, and what it comes to: 0 where it is done, the number that
+/// it shows, or none.
+#[derive(Clone, Copy)]
+struct Step(Call, bool, u64, Option<u64>);
+
+/// The edits of a create of `/x`, with one byte, or of its deletion.
+fn edits(alloc: Global, call: Call, x: Path) -> Result<Edits, NoMemory> {
+    let name = Text::from_str(alloc, "x")?;
+    let (own, parents) = match call {
+        Call::Create => (
+            What::Make {
+                bytes: Bytes::from_slice(alloc, b"A")?,
+                owner: 0,
+            },
+            What::AddName(name),
+        ),
+        _ => (What::Remove, What::DropName(name)),
     };
-    Ok(effects(alloc, &applied)?)
+    let mut edits = Edits::new(alloc);
+    edits.push(Edit { path: x, what: own })?;
+    edits.push(Edit {
+        path: Path::root(alloc),
+        what: parents,
+    })?;
+    Ok(edits)
 }
 
-/// Puts those edits of a create or a deletion of `/x` that are a path's own: 0 where it is done, the stamp
-/// where there is one already.
 fn put(
     alloc: Global,
     store: &mut UserStore,
-    word: &str,
+    call: Call,
     path: &Path,
     tx: u64,
 ) -> Result<Option<u64>, Fail> {
-    let all = edits(alloc, word)?;
+    let all = edits(alloc, call, Path::parse(alloc, "/x")?)?;
     let own = own_edits(alloc, all.as_slice(), path)?;
     match store.put(path, tx, 5, &own) {
         PutRecord::Done => Ok(Some(0)),
@@ -56,7 +72,6 @@ fn put(
     }
 }
 
-/// Publishes the epoch of 5 and 3: 0 where it is done, the mark where that is there already.
 fn publish(alloc: Global, store: &mut UserStore, tx: u64) -> Result<Option<u64>, Fail> {
     match store.publish(tx, &id_set(alloc, &[5, 3])?) {
         Publish::Done => Ok(Some(0)),
@@ -66,7 +81,6 @@ fn publish(alloc: Global, store: &mut UserStore, tx: u64) -> Result<Option<u64>,
     }
 }
 
-/// The stamp of a path, where the call doesn't fail.
 fn stamp(store: &mut UserStore, path: &Path) -> Option<u64>
     ensures stamp { IfSome result (λ s. s ≡ ((store_of store.old).records path.now).stamp) }
     ensures after { store_of store.new ≡ called (store_of store.old) }
@@ -77,7 +91,6 @@ fn stamp(store: &mut UserStore, path: &Path) -> Option<u64>
     }
 }
 
-/// How many bytes and children a path shows, where it shows a node.
 fn size(store: &mut UserStore, path: &Path) -> Option<u64> {
     match store.read(path) {
         UserRead::Shown {
@@ -89,32 +102,68 @@ fn size(store: &mut UserStore, path: &Path) -> Option<u64> {
     }
 }
 
-/// The mark, or the least number of the epoch, where the call doesn't fail.
-fn last(store: &mut UserStore, of_epoch: bool) -> Option<u64>
+fn mark(store: &mut UserStore) -> Option<u64>
     ensures after { store_of store.new ≡ called (store_of store.old) }
 {
     match store.look() {
-        UserLook::Shown { mark, epoch } => { if of_epoch { epoch.least() } else { Some(mark) } }
+        UserLook::Shown { mark, .. } => Some(mark),
         UserLook::Failed => None,
     }
 }
 
+fn epoch(store: &mut UserStore) -> Option<u64> {
+    match store.look() {
+        UserLook::Shown { epoch, .. } => epoch.least(),
+        UserLook::Failed => None,
+    }
+}
+
+fn arm(store: &mut UserStore, arms: bool) {
+    if arms {
+        store.arm();
+    } else {
+        store.calm();
+    }
+}
+
 /// What a call comes to.
-fn call(
+fn answer(
     alloc: Global,
     store: &mut UserStore,
-    word: &str,
+    call: Call,
     path: &Path,
     tx: u64,
 ) -> Result<Option<u64>, Fail> {
-    match word {
-        "stamp" => Ok(stamp(store, path)),
-        "size" => Ok(size(store, path)),
-        "mark" => Ok(last(store, false)),
-        "epoch" => Ok(last(store, true)),
-        "publish" => publish(alloc, store, tx),
-        _ => put(alloc, store, word, path, tx),
+    match call {
+        Call::Create => put(alloc, store, call, path, tx),
+        Call::Delete => put(alloc, store, call, path, tx),
+        Call::Publish => publish(alloc, store, tx),
+        Call::Stamp => Ok(stamp(store, path)),
+        Call::Size => Ok(size(store, path)),
+        Call::Mark => Ok(mark(store)),
+        Call::Epoch => Ok(epoch(store)),
+        Call::Arm => {
+            arm(store, true);
+            Ok(None)
+        }
+        Call::Calm => {
+            arm(store, false);
+            Ok(None)
+        }
+        Call::Faults => Ok(Some(store.faults())),
     }
+}
+
+/// The place of the first step that comes to something else, or their number.
+fn first_wrong(alloc: Global, steps: &[Step]) -> Result<usize, Fail> {
+    let mut store = UserStore::new(alloc)?;
+    for (place, Step(call, at_x, tx, want)) in steps.iter().enumerate() {
+        let path = Path::parse(alloc, if *at_x { "/x" } else { "/" })?;
+        if answer(alloc, &mut store, *call, &path, *tx)? != *want {
+            return Ok(place);
+        }
+    }
+    Ok(steps.len())
 }
 
 /// The set of these numbers.
@@ -126,69 +175,77 @@ fn id_set(alloc: Global, ids: &[u64]) -> Result<IdSet, NoMemory> {
     Ok(set)
 }
 
+const PUTS: [Step; 19] = [
+    Step(Call::Size, false, 0, Some(0)),
+    Step(Call::Size, true, 0, None),
+    Step(Call::Create, false, 1, Some(0)),
+    Step(Call::Create, false, 1, Some(1)),
+    Step(Call::Create, true, 1, Some(0)),
+    Step(Call::Create, true, 1, Some(1)),
+    Step(Call::Mark, false, 0, Some(0)),
+    Step(Call::Epoch, false, 0, None),
+    Step(Call::Publish, false, 1, Some(0)),
+    Step(Call::Publish, false, 1, Some(1)),
+    Step(Call::Mark, false, 0, Some(1)),
+    Step(Call::Epoch, false, 0, Some(3)),
+    Step(Call::Size, false, 0, Some(1)),
+    Step(Call::Size, true, 0, Some(1)),
+    Step(Call::Stamp, true, 0, Some(1)),
+    Step(Call::Delete, true, 3, Some(0)),
+    Step(Call::Delete, true, 2, Some(3)),
+    Step(Call::Size, true, 0, None),
+    Step(Call::Stamp, true, 0, Some(3)),
+];
+
 #[test]
 fn puts_and_publishes_once(rt: HostRuntime) -> Result<(), Fail> {
-    let alloc = rt.alloc();
-    let mut store = UserStore::new(alloc)?;
-    for (word, path, tx, want) in [
-        ("size", "/", 0, Some(0)),
-        ("size", "/x", 0, None),
-        ("create", "/", 1, Some(0)),
-        ("create", "/", 1, Some(1)),
-        ("create", "/x", 1, Some(0)),
-        ("create", "/x", 1, Some(1)),
-        ("mark", "/", 0, Some(0)),
-        ("epoch", "/", 0, None),
-        ("publish", "/", 1, Some(0)),
-        ("publish", "/", 1, Some(1)),
-        ("mark", "/", 0, Some(1)),
-        ("epoch", "/", 0, Some(3)),
-        ("size", "/", 0, Some(1)),
-        ("size", "/x", 0, Some(1)),
-        ("stamp", "/x", 0, Some(1)),
-        ("delete", "/x", 3, Some(0)),
-        ("delete", "/x", 2, Some(3)),
-        ("size", "/x", 0, None),
-        ("stamp", "/x", 0, Some(3)),
-    ] {
-        let path = Path::parse(alloc, path)?;
-        assert_eq!(rt; call(alloc, &mut store, word, &path, tx)?, want);
-    }
+    assert_eq!(rt; first_wrong(rt.alloc(), PUTS.as_slice())?, PUTS.len());
     Ok(())
 }
 
+const FAULTS: [Step; 19] = [
+    Step(Call::Arm, false, 0, None),
+    Step(Call::Stamp, false, 0, None),
+    Step(Call::Stamp, false, 0, Some(0)),
+    Step(Call::Faults, false, 0, Some(1)),
+    Step(Call::Arm, false, 0, None),
+    Step(Call::Mark, false, 0, None),
+    Step(Call::Mark, false, 0, Some(0)),
+    Step(Call::Faults, false, 0, Some(2)),
+    Step(Call::Arm, false, 0, None),
+    Step(Call::Create, false, 1, None),
+    Step(Call::Create, false, 1, Some(0)),
+    Step(Call::Faults, false, 0, Some(3)),
+    Step(Call::Arm, false, 0, None),
+    Step(Call::Publish, false, 1, None),
+    Step(Call::Publish, false, 1, Some(0)),
+    Step(Call::Faults, false, 0, Some(4)),
+    Step(Call::Arm, false, 0, None),
+    Step(Call::Calm, false, 0, None),
+    Step(Call::Stamp, false, 0, Some(1)),
+];
+
 #[test]
 fn fails_once(rt: HostRuntime) -> Result<(), Fail> {
-    let alloc = rt.alloc();
-    let root = Path::root(alloc);
-    let mut store = UserStore::new(alloc)?;
-    for (word, want, faults) in [
-        ("stamp", 0, 1),
-        ("mark", 0, 2),
-        ("create", 0, 3),
-        ("publish", 0, 4),
-    ] {
-        store.arm();
-        assert_eq!(rt; call(alloc, &mut store, word, &root, 1)?, None);
-        assert_eq!(rt; call(alloc, &mut store, word, &root, 1)?, Some(want));
-        assert_eq!(rt; store.faults(), faults);
-    }
-    store.arm();
-    store.calm();
-    assert_eq!(rt; stamp(&mut store, &root), Some(1));
+    assert_eq!(rt; first_wrong(rt.alloc(), FAULTS.as_slice())?, FAULTS.len());
     Ok(())
+}
+
+/// Whether a set shows these numbers, by each way of asking.
+fn shows(set: &IdSet, ids: &[u64]) -> bool {
+    set.as_slice() == ids
+        && set.len() == ids.len()
+        && set.is_empty() == ids.is_empty()
+        && set.least() == ids.first().copied()
 }
 
 #[test]
 fn keeps_ids_in_order(rt: HostRuntime) -> Result<(), Fail> {
     let alloc = rt.alloc();
     let mut set = id_set(alloc, &[7, 3, 9, 3, 5, 9])?;
-    assert!(rt; set.as_slice() == [3, 5, 7, 9].as_slice());
-    assert!(rt; set.contains(5) && !set.contains(4) && set.least() == Some(3));
+    assert!(rt; set.contains(5) && !set.contains(4) && shows(&set, &[3, 5, 7, 9]));
     set.remove(3);
     set.remove(4);
-    let copied = set.copy()?;
-    assert!(rt; copied.as_slice() == [5, 7, 9].as_slice());
-    assert!(rt; copied.len() == 3 && !copied.is_empty());
+    assert!(rt; shows(&set.copy()?, &[5, 7, 9]));
     Ok(())
 }

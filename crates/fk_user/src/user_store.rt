@@ -1,14 +1,14 @@
-ghost use Rattle.std.specs.Prelude.{◌≡◌, true, false, IfOk, OnOk, OnErr};
-ghost use Rattle.fk_user.specs.Meaning.{armed, called, calmed, new_store, published, with_put};
+ghost use Rattle.std.specs.Prelude.{◌≡◌, true, false, IfOk};
+ghost use Rattle.fk_user.specs.Meaning.{armed, called, calmed, new_store};
 ghost use Rattle.fk_user.specs.Answers.{after_publish, after_put, IsLook, IsPublish, IsPut, IsRead};
 ghost use Rattle.fk_user.specs.Own.{are_own};
 ghost use Rattle.fk_user.specs.Stored.{store_of};
 
 use crate::answer::{Publish, PutRecord, UserLook, UserRead};
 use crate::id_set::IdSet;
-use crate::records::{Records, put, record_after, root_alone, stamp_in};
+use crate::records::Records;
 use fk_base::{NoMemory, Path};
-use fk_tree::{Edit, Edits};
+use fk_tree::Edits;
 use std::alloc::Global;
 
 /// The storage that clients read directly. It means a finite map from paths to a node or none with a
@@ -33,7 +33,7 @@ impl UserStore {
         ensures { IfOk result (λ s. store_of s ≡ new_store) }
     {
         Ok(UserStore {
-            records: root_alone(alloc)?,
+            records: Records::new(alloc)?,
             mark: 0,
             epoch: IdSet::new(alloc),
             armed: false,
@@ -77,6 +77,7 @@ impl UserStore {
 
     /// Makes all the edits of a path's node, in order, and sets its stamp to `tx`, as one step, where the
     /// stamp is below `tx`. May fail.
+    #[tactic(auto, using(crate::proofs::Putting::put_store, crate::proofs::Putting::same_store))]
     pub fn put(&mut self, path: &Path, tx: u64, moment: u64, edits: &Edits) -> PutRecord
         requires { are_own path.now edits.now ≡ true }
         ensures answer { IsPut (store_of self.old) path.now tx result }
@@ -85,11 +86,11 @@ impl UserStore {
         if self.fails() {
             return PutRecord::Failed;
         }
-        let stamp = stamp_in(&self.records, path);
+        let stamp = self.records.stamp(path);
         if stamp >= tx {
             return PutRecord::Already(stamp);
         }
-        match self.write(path, tx, moment, edits.as_slice()) {
+        match self.records.put(path, tx, moment, edits.as_slice()) {
             Ok(()) => PutRecord::Done,
             Err(NoMemory) => PutRecord::NoMemory,
         }
@@ -149,16 +150,5 @@ impl UserStore {
             return true;
         }
         false
-    }
-
-    // makes the edits of a path's node; it takes all memory before it changes what the store means
-    fn write(&mut self, path: &Path, tx: u64, moment: u64, edits: &[Edit]) -> Result<(), NoMemory>
-        requires { are_own path.now edits.now ≡ true }
-        ensures ok { OnOk result (store_of self.new ≡ with_put (store_of self.old) path.now tx moment edits.now) }
-        ensures err { OnErr result (store_of self.new ≡ store_of self.old) }
-    {
-        let kept = record_after(&self.records, path, tx, moment, edits)?;
-        put(&mut self.records, path, kept)?;
-        Ok(())
     }
 }
