@@ -17,6 +17,7 @@ mod Refusing
 pub mod Rising
 mod Samples
 mod Seeking
+mod Showing
 mod Sorting
 mod Standing
 mod Starting
