@@ -15,6 +15,7 @@ mod Refusing
 pub mod Rising
 mod Samples
 mod Seeking
+mod Showing
 mod Sorting
 mod Standing
 mod Starting

@@ -5,6 +5,7 @@ pub mod Edit
 pub mod Fill
 pub mod Locks
 pub mod Rows
+pub mod Shown
 pub mod Sorted
 pub mod Touch
 pub mod Touching

@@ -19,6 +19,7 @@ mod parts;
 mod replies;
 mod reply;
 mod request;
+mod rows;
 mod sequence;
 mod slots;
 #[cfg(test)]
@@ -38,5 +39,7 @@ pub use node::{Node, Stat};
 pub use node_edit::edit_node;
 pub use reply::{Answer, PartReply, Reply};
 pub use request::{Part, Query, Request};
+pub use rows::Rows;
+pub use sequence::final_path;
 pub use touch_list::touched;
 pub use tree::Tree;

@@ -6,6 +6,7 @@ ghost use Rattle.fk_tree.specs.Fill.{final_path, last_digits};
 
 use crate::effect_list::parent_and_name;
 use fk_base::{NoMemory, Path, Text};
+use std::alloc::Global;
 
 /// The path that a create makes under a parent with this count.
 pub fn final_path(path: &Path, seq: bool, made: u32) -> Result<Path, NoMemory>
@@ -29,6 +30,18 @@ fn numbered(path: &Path, made: u32) -> Result<Path, NoMemory>
     };
     push_digits(&mut name, 10, made)?;
     match parent.child(name.as_str()) {
+        Ok(path) => Ok(path),
+        Err(_) => Err(NoMemory),
+    }
+}
+
+/// The path that a sequential create of the root would make.
+pub fn numbered_root(alloc: Global, made: u32) -> Result<Path, NoMemory>
+    ensures { IfOk result (λ p. p ≡ final_path [] true made) }
+{
+    let mut digits = Text::new(alloc);
+    push_digits(&mut digits, 10, made)?;
+    match Path::root(alloc).child(digits.as_str()) {
         Ok(path) => Ok(path),
         Err(_) => Err(NoMemory),
     }
