@@ -1,8 +1,7 @@
 -- What the answers of the services say is the operation by the services' meanings.
-use Rattle.std.proofs.Common.{◌≡◌, ℕ, ◌+◌, Bool, true, false, cond, List, [], ◌∷◌, Option, Some, None, refl}
+use Rattle.std.proofs.Common.{◌≡◌, ℕ, ◌+◌, Bool, true, false, cond, List, [], Option, Some, None, refl}
 use Rattle.std.specs.Prelude.{◌==◌}
 use Rattle.fk_base.specs.Path.{PathNames}
-use Rattle.fk_print.specs.declared.op.Op.{Op}
 use Rattle.fk_print.specs.declared.op.Op.TheVariants as op
 use Rattle.fk_print.specs.declared.op.Word.TheVariants as word
 use Rattle.fk_queue.specs.Answers.{ack_of, is_number}
@@ -18,7 +17,6 @@ use Rattle.fk_spec.specs.Locks.{Passed}
 use Rattle.fk_follow.specs.Operation.{commit_op, first_passed, locked, lost_op, or_fault}
 use Rattle.fk_follow.specs.Reading.{verdict_of, verdict_on}
 use Rattle.fk_follow.specs.Said.{ack_by, commit_by, lost_by, refuse_by, refuse_on}
-use Rattle.fk_follow.specs.declared.settling.Verdict.{Verdict}
 use Rattle.fk_follow.specs.declared.settling.Verdict.TheVariants as verdict
 
 -- by whether the table is armed, whether the request is the next, and the first lock that passed on

@@ -1,5 +1,5 @@
 -- The paths that a table gives for a session's nodes.
-use Rattle.std.proofs.Common.{◌≡◌, ℕ, Bool, true, false, cond, List, Option, Some, None, refl, sym, ◌∙◌, ap}
+use Rattle.std.proofs.Common.{◌≡◌, ℕ, Bool, false, cond, List, Some, None, sym, ◌∙◌, ap}
 use Rattle.fk_base.specs.Path.{PathNames}
 use Rattle.fk_store.specs.Answers.{AreOwned}
 use Rattle.fk_store.specs.Meaning.{Meaning}

@@ -1,5 +1,5 @@
 -- From what a call answered to what comes after it.
-use Rattle.std.proofs.Common.{◌≡◌, Bool, true, false, cond, Option, Some, None, refl, sym, ◌∙◌, ap, arith}
+use Rattle.std.proofs.Common.{◌≡◌, Bool, true, false, cond, Some, None, ◌∙◌, ap, arith}
 use Rattle.std.specs.Prelude.{Result, Ok, Err, IfOk, OnOk}
 use Rattle.fk_print.specs.declared.op.Op.{Op}
 use Rattle.fk_store.specs.declared.session_record.SessionRecord.{SessionRecord}

@@ -1,5 +1,5 @@
 -- What an operation of a follower needs.
-use Rattle.std.specs.Prelude.{◌≡◌, ◌≢◌, ℕ, ◌≤◌, ◌<◌, ◌-◌, ◌+◌, ◌^◌, List, true, false, ⊤, is_some}
+use Rattle.std.specs.Prelude.{◌≡◌, ◌≢◌, ℕ, ◌≤◌, ◌<◌, ◌-◌, ◌^◌, List, true, false, ⊤, is_some}
 use Rattle.fk_base.specs.Path.{PathNames}
 use Rattle.fk_store.specs.Answers.{AreOwned}
 use Rattle.fk_spec.specs.Follower.{Stage}

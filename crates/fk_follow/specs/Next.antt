@@ -1,5 +1,5 @@
 -- Where a follower stands after its operation: one line for each answer.
-use Rattle.std.specs.Prelude.{ℕ, if◌then◌else◌, List, [], ◌∷◌, ◌++◌, max}
+use Rattle.std.specs.Prelude.{ℕ, List, [], ◌∷◌, ◌++◌, max}
 use Rattle.fk_base.specs.Path.{PathNames}
 use Rattle.fk_print.specs.declared.op.Op.{Op}
 use Rattle.fk_print.specs.declared.op.Op.TheVariants as op
@@ -11,7 +11,7 @@ use Rattle.fk_store.specs.declared.outcome.Outcome.{Outcome}
 use Rattle.fk_store.specs.declared.outcome.Outcome.TheVariants as kept
 use Rattle.fk_spec.specs.Follower.{Follower, Granted, Stage, to_begin, to_lock}
 use Rattle.fk_spec.specs.Follower as stage
-use Rattle.fk_follow.specs.Meaning.{Meaning, Own, own_moment}
+use Rattle.fk_follow.specs.Meaning.{Meaning, own_moment}
 use Rattle.fk_follow.specs.Operation.{step_op}
 
 -- it goes on as this, without a moment and an outcome

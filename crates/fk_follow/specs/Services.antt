@@ -1,5 +1,5 @@
 -- What the services mean after a follower's operation.
-use Rattle.std.specs.Prelude.{ℕ, if◌then◌else◌, List, [], ◌∷◌, Option, Some, None}
+use Rattle.std.specs.Prelude.{ℕ, if◌then◌else◌, List, [], Option, Some, None}
 use Rattle.fk_base.specs.Path.{PathNames}
 use Rattle.fk_base.specs.declared.code.Code.TheVariants as code
 use Rattle.fk_tree.specs.Check.{Refusal}
@@ -28,7 +28,7 @@ use Rattle.fk_spec.specs.Follower as stage
 use Rattle.fk_spec.specs.Stored.{owned_among}
 use Rattle.fk_follow.specs.Meaning.{Meaning}
 use Rattle.fk_follow.specs.Operation.{locked, paths_of}
-use Rattle.fk_follow.specs.Transaction.{commit_conds, commit_writes, lost_writes, refuse_writes, settle_conds, transacted}
+use Rattle.fk_follow.specs.Transaction.{commit_conds, commit_writes, refuse_writes, settle_conds, transacted}
 
 -- ---- messages
 

@@ -1,5 +1,5 @@
 -- What the fields of a follower mean.
-use Rattle.std.specs.Prelude.{ℕ, List, [], ◌∷◌, map, Option, Some, None}
+use Rattle.std.specs.Prelude.{ℕ, List, map, Option, Some, None}
 use Rattle.fk_store.specs.declared.outcome.Outcome.{Outcome}
 use Rattle.fk_store.specs.declared.outcome.Outcome.TheVariants as outcome
 use Rattle.fk_spec.specs.Follower.{Stage}

@@ -1,7 +1,6 @@
 -- The transactions of a follower: what each needs of the table, and what it writes there.
 use Rattle.std.specs.Prelude.{ℕ, ◌-◌, if◌then◌else◌, List, [], ◌∷◌, ◌++◌, Option, Some, None}
 use Rattle.fk_base.specs.Path.{PathNames}
-use Rattle.fk_base.specs.declared.code.Code.{Code}
 use Rattle.fk_tree.specs.Edit.{closes, effects}
 use Rattle.fk_tree.specs.Sorted.{in_path_order}
 use Rattle.fk_tree.specs.declared.applied.Applied.{Applied}
@@ -57,13 +56,9 @@ commit_writes tx x =
     ++ (write.Settle x.session x.k (kept.Applied tx)
     ∷ close_writes x.session x.request)))
 
--- a refusal releases the locks that its conditions name, and settles the request
+-- a refusal, and a loss, releases the locks that its conditions name, and settles the request; those of a loss name none
 abbrev pub refuse_writes : ℕ → ℕ → Outcome → List PathNames → List Write
 refuse_writes session k outcome ps = release_writes ps ++ write.Settle session k outcome ∷ []
-
--- a loss settles the request
-abbrev pub lost_writes : ℕ → ℕ → Outcome → List Write
-lost_writes session k outcome = write.Settle session k outcome ∷ []
 
 abbrev pub written_unless : Option Miss → List Write → Meaning → Meaning
 written_unless None ws t = all_written ws t

@@ -1,5 +1,5 @@
 -- Whole runs of one follower on services that nobody else uses.
-use Rattle.std.specs.Prelude.{◌≡◌, ℕ, zero, suc, true, false, List, [], ◌∷◌, codes, Some, None}
+use Rattle.std.specs.Prelude.{◌≡◌, ℕ, zero, suc, true, false, List, [], ◌∷◌, codes}
 use Rattle.fk_base.specs.Path.{PathNames}
 use Rattle.fk_base.specs.declared.code.Code.TheVariants as code
 use Rattle.fk_print.specs.declared.op.Op.{Op}
@@ -8,8 +8,6 @@ use Rattle.fk_print.specs.declared.op.Word.TheVariants as word
 use Rattle.fk_queue.specs.Meaning as post
 use Rattle.fk_queue.specs.declared.lane.Lane.TheVariants as lane
 use Rattle.fk_store.specs.Meaning as table
-use Rattle.fk_store.specs.declared.outcome.Outcome.TheVariants as kept
-use Rattle.fk_store.specs.declared.session_record.SessionRecord.{SessionRecord}
 use Rattle.fk_tree.specs.declared.request.Request.{Request}
 use Rattle.fk_tree.specs.declared.request.Request.TheVariants as request
 use Rattle.fk_follow.specs.Meaning.{Meaning, is_ended, started}

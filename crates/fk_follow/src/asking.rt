@@ -35,24 +35,24 @@ impl Follower {
     {
         match session_at(table, self.session)? {
             None => Ok(self.fail(Word::Session)),
-            Some(record) => self.answered(&record),
+            Some(shown) => self.answered(&shown),
         }
     }
 
     // the record says whether the request is the session's next, its last one, or one that is past
     #[tactic(auto, unfolding(crate::specs::Standing::follower_of), using(crate::proofs::Verdicts::next_is))]
-    fn answered(&mut self, record: &SessionRecord) -> Result<Op, NoMemory>
+    fn answered(&mut self, shown: &SessionRecord) -> Result<Op, NoMemory>
         requires first { 1 ≤ self.old.k }
         requires parts { HasFewParts self.old.message.request }
-        requires kept { record.now.settled ≡ self.old.k → record.now.outcome ≢ outcome.Nothing }
-        ensures op { IfOk result (λ o. o ≡ session_op self.old.inv self.old.k record.now) }
-        ensures follower { (t : Meaning) (owned : List PathNames) (now : ℕ) → session_of t self.old.session ≡ record.now → IfOk result (λ o. follower_of self.new ≡ next_with t owned now o (follower_of self.old)) }
+        requires kept { shown.now.settled ≡ self.old.k → shown.now.outcome ≢ outcome.Nothing }
+        ensures op { IfOk result (λ o. o ≡ session_op self.old.inv self.old.k shown.now) }
+        ensures follower { (t : Meaning) (owned : List PathNames) (now : ℕ) → session_of t self.old.session ≡ shown.now → IfOk result (λ o. follower_of self.new ≡ next_with t owned now o (follower_of self.old)) }
     {
-        if record.settled == self.k - 1 {
-            return self.unsettled(record);
+        if shown.settled == self.k - 1 {
+            return self.unsettled(shown);
         }
-        if record.settled == self.k {
-            return self.settled(record);
+        if shown.settled == self.k {
+            return self.settled(shown);
         }
         self.state = State::Ack;
         Ok(Op::SessionPast { function: self.inv })
@@ -62,29 +62,29 @@ impl Follower {
 impl Follower {
     // the request is the session's next: it begins, or is refused where the session is closed
     #[tactic(auto, unfolding(crate::specs::Standing::follower_of))]
-    fn unsettled(&mut self, record: &SessionRecord) -> Result<Op, NoMemory>
+    fn unsettled(&mut self, shown: &SessionRecord) -> Result<Op, NoMemory>
         requires { HasFewParts self.old.message.request }
-        ensures op { IfOk result (λ o. o ≡ unsettled_op self.old.inv record.now.closed) }
-        ensures follower { (t : Meaning) (owned : List PathNames) (now : ℕ) → session_of t self.old.session ≡ record.now → IfOk result (λ o. follower_of self.new ≡ next_with t owned now o (follower_of self.old)) }
+        ensures op { IfOk result (λ o. o ≡ unsettled_op self.old.inv shown.now.closed) }
+        ensures follower { (t : Meaning) (owned : List PathNames) (now : ℕ) → session_of t self.old.session ≡ shown.now → IfOk result (λ o. follower_of self.new ≡ next_with t owned now o (follower_of self.old)) }
     {
-        if record.closed {
-            let at = self.message.seen.max(record.last);
+        if shown.closed {
+            let at = self.message.seen.max(shown.last);
             self.state = State::Expire { at };
             return Ok(Op::SessionClosed { function: self.inv });
         }
-        self.last = record.last;
+        self.last = shown.last;
         self.begin()?;
         Ok(Op::SessionNew { function: self.inv })
     }
 
     // the request is the session's last one: a commit is told by a leader, another outcome here
     #[tactic(auto, unfolding(crate::specs::Standing::follower_of))]
-    fn settled(&mut self, record: &SessionRecord) -> Result<Op, NoMemory>
-        requires { record.now.outcome ≢ outcome.Nothing }
-        ensures op { IfOk result (λ o. o ≡ settled_op self.old.inv record.now.outcome) }
-        ensures follower { (t : Meaning) (owned : List PathNames) (now : ℕ) → session_of t self.old.session ≡ record.now → IfOk result (λ o. follower_of self.new ≡ next_with t owned now o (follower_of self.old)) }
+    fn settled(&mut self, shown: &SessionRecord) -> Result<Op, NoMemory>
+        requires { shown.now.outcome ≢ outcome.Nothing }
+        ensures op { IfOk result (λ o. o ≡ settled_op self.old.inv shown.now.outcome) }
+        ensures follower { (t : Meaning) (owned : List PathNames) (now : ℕ) → session_of t self.old.session ≡ shown.now → IfOk result (λ o. follower_of self.new ≡ next_with t owned now o (follower_of self.old)) }
     {
-        match kept_of(&record.outcome)? {
+        match kept_of(&shown.outcome)? {
             None => {
                 self.state = State::Ack;
                 Ok(Op::SessionApplied { function: self.inv })

@@ -72,11 +72,7 @@ fn push_with_parents(paths: &mut Vec<Path>, owned: &[Path]) -> Result<(), NoMemo
 }
 
 // the parent, then what its node makes of a sequential create's path
-fn push_numbered(
-    paths: &mut Vec<Path>,
-    path: &Path,
-    granted: &[Granted],
-) -> Result<(), NoMemory>
+fn push_numbered(paths: &mut Vec<Path>, path: &Path, granted: &[Granted]) -> Result<(), NoMemory>
     ensures { OnOk result (paths.new.items ≡ paths.old.items ++ numbered_paths path.now (node_in (grants_of granted.now) (parent path.now))) }
 {
     let Some(parent) = path.parent()? else {

@@ -39,12 +39,7 @@ fn is_owned_by(session: u32, node: Option<&Node>) -> bool
 }
 
 // those of the paths whose node in the rows has this owner
-fn owned_among(
-    alloc: Global,
-    session: u32,
-    rows: &Rows,
-    paths: &[Path],
-) -> Result<Paths, NoMemory>
+fn owned_among(alloc: Global, session: u32, rows: &Rows, paths: &[Path]) -> Result<Paths, NoMemory>
     ensures { IfOk result (λ ps. ps ≡ owned_among session (rows_view rows.now) paths.now) }
 {
     let mut owned = Paths::new(alloc);

@@ -54,13 +54,7 @@ impl Follower {
 
     // it holds one more lock, and goes on
     #[tactic(auto, unfolding(crate::specs::Standing::follower_of))]
-    fn hold(
-        &mut self,
-        path: Path,
-        node: Option<Node>,
-        last: u64,
-        now: u64,
-    ) -> Result<(), NoMemory>
+    fn hold(&mut self, path: Path, node: Option<Node>, last: u64, now: u64) -> Result<(), NoMemory>
         requires { HasFewParts self.old.message.request }
         ensures { OnOk result (follower_of self.new ≡ going_on (to_lock self.old.message.seen self.old.message.request (with_granted (record { path = path; node = node; last = last }) (follower_of self.old).follower)) (with_own path now (follower_of self.old))) }
     {

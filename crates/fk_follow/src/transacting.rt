@@ -185,13 +185,7 @@ impl Follower {
     }
 
     #[tactic(auto, unfolding(crate::specs::Standing::follower_of))]
-    fn refused(
-        &mut self,
-        code: Code,
-        place: u32,
-        at: u64,
-        verdict: Verdict,
-    ) -> Result<Op, NoMemory>
+    fn refused(&mut self, code: Code, place: u32, at: u64, verdict: Verdict) -> Result<Op, NoMemory>
         ensures op { IfOk result (λ o. o ≡ refuse_by self.old.inv (record { code = code; place = place }) at verdict) }
         ensures follower { (t : Meaning) (owned : List PathNames) (now : ℕ) → IfOk result (λ o. follower_of self.new ≡ next_with t owned now o (follower_of self.old)) }
     {

@@ -1,4 +1,3 @@
-use Rattle.std.proofs.Common.{◌≡◌}
 use Rattle.fk_queue.specs.Posts.{post_of}
 use Rattle.fk_follow.specs.Next.{next_with}
 use Rattle.fk_follow.specs.Operation.{step_op}
