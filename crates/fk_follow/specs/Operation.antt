@@ -1,0 +1,109 @@
+-- The operation that a follower makes, by what it reads of the services.
+use Rattle.std.specs.Prelude.{ℕ, ◌+◌, ◌==◌, Bool, false, if◌then◌else◌, List, [], ◌∷◌, length, map, Option, Some, None}
+use Rattle.fk_base.specs.Path.{PathNames}
+use Rattle.fk_base.specs.declared.code.Code.TheVariants as code
+use Rattle.fk_tree.specs.Check.{Refusal}
+use Rattle.fk_tree.specs.Sorted.{in_path_order}
+use Rattle.fk_print.specs.declared.op.Op.{Op}
+use Rattle.fk_print.specs.declared.op.Op.TheVariants as op
+use Rattle.fk_print.specs.declared.op.Word.{Word}
+use Rattle.fk_queue.specs.Letters.{head_number}
+use Rattle.fk_queue.specs.Meaning as post
+use Rattle.fk_queue.specs.declared.lane.Lane.TheVariants as lane
+use Rattle.fk_store.specs.Conds.{session_of}
+use Rattle.fk_store.specs.Locks.{is_free, is_held_by}
+use Rattle.fk_store.specs.Meaning as table
+use Rattle.fk_store.specs.Meaning.{lock_of}
+use Rattle.fk_store.specs.declared.lock.Lock.{Lock}
+use Rattle.fk_store.specs.declared.outcome.Outcome.{Outcome}
+use Rattle.fk_store.specs.declared.outcome.Outcome.TheVariants as kept
+use Rattle.fk_store.specs.declared.session_record.SessionRecord.{SessionRecord}
+use Rattle.fk_spec.specs.Follower.{Follower, Granted, Stage, ack_op, commit_locked, refuse_locked, unsettled_op}
+use Rattle.fk_spec.specs.Follower as stage
+use Rattle.fk_spec.specs.Function.{follower_word}
+use Rattle.fk_spec.specs.Locks.{Passed}
+use Rattle.fk_follow.specs.Meaning.{Meaning}
+
+-- ---- what is read of the table
+
+abbrev pub settled_op : ℕ → Outcome → Op
+settled_op n (kept.Applied tx) = op.SessionApplied n
+settled_op n _ = op.SessionRefused n
+
+-- the session's next request, its last one, or one that is past
+abbrev pub session_op : ℕ → ℕ → SessionRecord → Op
+session_op n k r =
+    if r.settled + 1 == k then unsettled_op n r.closed else if r.settled == k then settled_op n r.outcome else op.SessionPast n
+
+abbrev pub lock_op : ℕ → ℕ → ℕ → PathNames → Lock → Op
+lock_op now time n path l = if is_free now time l then op.LockOk n path else op.LockBusy n path l.inv l.moment
+
+-- the paths of the granted locks, in the order of the grants
+abbrev pub paths_of : List Granted → List PathNames
+paths_of gs = map (λ g. g.path) gs
+
+-- the paths whose locks a commit and a refusal need, and release
+abbrev pub locked : Follower → List PathNames
+locked f = in_path_order (paths_of f.granted)
+
+abbrev pub passed_on : PathNames → Lock → Passed
+passed_on p l = record { path = p; holder = l.inv; moment = l.moment }
+
+-- the first of the paths whose lock isn't held by invocation n
+abbrev pub first_passed : ℕ → table.Meaning → List PathNames → Option Passed
+first_passed n t [] = None
+first_passed n t (p ∷ ps) = if is_held_by n (lock_of t p) then first_passed n t ps else Some (passed_on p (lock_of t p))
+
+abbrev pub commit_op : table.Meaning → ℕ → ℕ → Follower → Op
+commit_op t n tx f =
+    if (session_of t f.session).settled + 1 == f.k then commit_locked n tx (first_passed n t (locked f)) else op.CommitSettled n tx (session_of t f.session).settled
+
+-- a refusal is settled under the same conditions
+abbrev pub refuse_op : table.Meaning → ℕ → Refusal → ℕ → Follower → Op
+refuse_op t n r at f =
+    if (session_of t f.session).settled + 1 == f.k then refuse_locked n r at (first_passed n t (locked f)) else op.RefuseSettled n r.code r.place at (session_of t f.session).settled
+
+-- a request of a closed session is refused under the first of them alone, and so is a loss settled
+abbrev pub expire_op : table.Meaning → ℕ → ℕ → Follower → Op
+expire_op t n at f = if (session_of t f.session).settled + 1 == f.k then op.RefuseOk n code.SessionExpired 0 at else op.RefuseSettled n code.SessionExpired 0 at (session_of t f.session).settled
+
+abbrev pub lost_op : table.Meaning → ℕ → Follower → Op
+lost_op t n f = if (session_of t f.session).settled + 1 == f.k then op.LostOk n else op.LostSettled n (session_of t f.session).settled
+
+-- ---- the operation
+
+-- where the services don't fail: `owned` is what the table gives for the session's own nodes
+abbrev pub calm_op : table.Meaning → post.Meaning → ℕ → ℕ → List PathNames → ℕ → Follower → Stage → Op
+calm_op t q now time owned n f stage.Session = session_op n f.k (session_of t f.session)
+calm_op t q now time owned n f stage.Owned = op.Owned n (length owned)
+calm_op t q now time owned n f (stage.Lock path) = lock_op now time n path (lock_of t path)
+calm_op t q now time owned n f stage.Push = op.Push n ((q.lanes lane.Leader).given + 1)
+calm_op t q now time owned n f (stage.Refuse r at) = refuse_op t n r at f
+calm_op t q now time owned n f (stage.Expire at) = expire_op t n at f
+calm_op t q now time owned n f (stage.Commit tx) = commit_op t n tx f
+calm_op t q now time owned n f stage.Lost = lost_op t n f
+calm_op t q now time owned n f stage.Reply = op.Reply n f.session f.k
+calm_op t q now time owned n f stage.Ack = ack_op n f.k (head_number (q.lanes (lane.Session f.session)))
+calm_op t q now time owned n f stage.Ended = op.Idle
+
+-- whether the service that the operation calls is armed
+abbrev pub is_armed : table.Meaning → post.Meaning → Stage → Bool
+is_armed t q stage.Session = t.armed
+is_armed t q stage.Owned = t.armed
+is_armed t q (stage.Lock path) = t.armed
+is_armed t q stage.Push = q.armed
+is_armed t q (stage.Refuse r at) = t.armed
+is_armed t q (stage.Expire at) = t.armed
+is_armed t q (stage.Commit tx) = t.armed
+is_armed t q stage.Lost = t.armed
+is_armed t q stage.Reply = q.armed
+is_armed t q stage.Ack = q.armed
+is_armed t q stage.Ended = false
+
+abbrev pub or_fault : Bool → ℕ → Word → Op → Op
+or_fault armed n word o = if armed then op.Fault n word else o
+
+-- The operation that a follower makes on these services at this moment, where locks pass on after `time`.
+abbrev pub step_op : table.Meaning → post.Meaning → ℕ → ℕ → List PathNames → Meaning → Op
+step_op t q now time owned m =
+    or_fault (is_armed t q m.follower.stage) m.inv (follower_word m.follower.stage) (calm_op t q now time owned m.inv m.follower m.follower.stage)

@@ -1,0 +1,119 @@
+//! A follower asks the table for its session's record, and for the session's nodes.
+
+ghost use Rattle.std.specs.Prelude.{◌≡◌, ◌≤◌, ◌+◌, ◌≢◌, ℕ, List, true, is_some, length, IfOk, OnOk};
+ghost use Rattle.fk_base.specs.Path.{PathNames};
+ghost use Rattle.fk_print.specs.declared.op.Op.TheVariants as op;
+ghost use Rattle.fk_print.specs.declared.op.Word.TheVariants as word;
+ghost use Rattle.fk_store.specs.Answers.{AreOwned};
+ghost use Rattle.fk_store.specs.Conds.{session_of};
+ghost use Rattle.fk_store.specs.Meaning.{Meaning, called};
+ghost use Rattle.fk_store.specs.declared.outcome.Outcome.TheVariants as outcome;
+ghost use Rattle.fk_tree.specs.Check.{HasFewParts};
+ghost use Rattle.fk_follow.specs.Next.{next_with};
+ghost use Rattle.fk_follow.specs.Operation.{or_fault, session_op, settled_op};
+ghost use Rattle.fk_spec.specs.Follower.{unsettled_op};
+ghost use Rattle.fk_follow.specs.Standing.{follower_of};
+
+use crate::follower::Follower;
+use crate::reading::{owned_at, session_at};
+use crate::state::{State, kept_of};
+use fk_base::NoMemory;
+use fk_print::{Op, Word};
+use fk_store::{SessionRecord, Table};
+
+impl Follower {
+    /// It asks for its session's record.
+    #[tactic(auto, unfolding(crate::specs::Standing::follower_of))]
+    pub(crate) fn ask<T: Table>(&mut self, table: &mut T) -> Result<Op, NoMemory>
+        requires first { 1 ≤ self.old.k }
+        requires parts { HasFewParts self.old.message.request }
+        requires session { is_some ((T.meaning table.old).sessions self.old.session) ≡ true }
+        requires kept { (session_of (T.meaning table.old) self.old.session).settled ≡ self.old.k → (session_of (T.meaning table.old) self.old.session).outcome ≢ outcome.Nothing }
+        ensures op { IfOk result (λ o. o ≡ or_fault (T.meaning table.old).armed self.old.inv word.Session (session_op self.old.inv self.old.k (session_of (T.meaning table.old) self.old.session))) }
+        ensures follower { (owned : List PathNames) (now : ℕ) → IfOk result (λ o. follower_of self.new ≡ next_with (T.meaning table.old) owned now o (follower_of self.old)) }
+        ensures table { OnOk result (T.meaning table.new ≡ called (T.meaning table.old)) }
+    {
+        match session_at(table, self.session)? {
+            None => Ok(self.fail(Word::Session)),
+            Some(shown) => self.answered(&shown),
+        }
+    }
+
+    // the record says whether the request is the session's next, its last one, or one that is past
+    #[tactic(auto, unfolding(crate::specs::Standing::follower_of), using(crate::proofs::Verdicts::next_is))]
+    fn answered(&mut self, shown: &SessionRecord) -> Result<Op, NoMemory>
+        requires first { 1 ≤ self.old.k }
+        requires parts { HasFewParts self.old.message.request }
+        requires kept { shown.now.settled ≡ self.old.k → shown.now.outcome ≢ outcome.Nothing }
+        ensures op { IfOk result (λ o. o ≡ session_op self.old.inv self.old.k shown.now) }
+        ensures follower { (t : Meaning) (owned : List PathNames) (now : ℕ) → session_of t self.old.session ≡ shown.now → IfOk result (λ o. follower_of self.new ≡ next_with t owned now o (follower_of self.old)) }
+    {
+        if shown.settled == self.k - 1 {
+            return self.unsettled(shown);
+        }
+        if shown.settled == self.k {
+            return self.settled(shown);
+        }
+        self.state = State::Ack;
+        Ok(Op::SessionPast { function: self.inv })
+    }
+}
+
+impl Follower {
+    // the request is the session's next: it begins, or is refused where the session is closed
+    #[tactic(auto, unfolding(crate::specs::Standing::follower_of))]
+    fn unsettled(&mut self, shown: &SessionRecord) -> Result<Op, NoMemory>
+        requires { HasFewParts self.old.message.request }
+        ensures op { IfOk result (λ o. o ≡ unsettled_op self.old.inv shown.now.closed) }
+        ensures follower { (t : Meaning) (owned : List PathNames) (now : ℕ) → session_of t self.old.session ≡ shown.now → IfOk result (λ o. follower_of self.new ≡ next_with t owned now o (follower_of self.old)) }
+    {
+        if shown.closed {
+            let at = self.message.seen.max(shown.last);
+            self.state = State::Expire { at };
+            return Ok(Op::SessionClosed { function: self.inv });
+        }
+        self.last = shown.last;
+        self.begin()?;
+        Ok(Op::SessionNew { function: self.inv })
+    }
+
+    // the request is the session's last one: a commit is told by a leader, another outcome here
+    #[tactic(auto, unfolding(crate::specs::Standing::follower_of))]
+    fn settled(&mut self, shown: &SessionRecord) -> Result<Op, NoMemory>
+        requires { shown.now.outcome ≢ outcome.Nothing }
+        ensures op { IfOk result (λ o. o ≡ settled_op self.old.inv shown.now.outcome) }
+        ensures follower { (t : Meaning) (owned : List PathNames) (now : ℕ) → session_of t self.old.session ≡ shown.now → IfOk result (λ o. follower_of self.new ≡ next_with t owned now o (follower_of self.old)) }
+    {
+        match kept_of(&shown.outcome)? {
+            None => {
+                self.state = State::Ack;
+                Ok(Op::SessionApplied { function: self.inv })
+            }
+            Some(kept) => {
+                self.state = State::Reply(kept);
+                Ok(Op::SessionRefused { function: self.inv })
+            }
+        }
+    }
+
+    /// It asks which nodes its session owns.
+    #[tactic(auto, unfolding(crate::specs::Standing::follower_of))]
+    pub(crate) fn list<T: Table>(&mut self, table: &mut T) -> Result<Op, NoMemory>
+        requires parts { HasFewParts self.old.message.request }
+        requires session { is_some ((T.meaning table.old).sessions self.old.session) ≡ true }
+        ensures op { (owned : List PathNames) → AreOwned (T.meaning table.old) self.old.session owned → IfOk result (λ o. o ≡ or_fault (T.meaning table.old).armed self.old.inv word.Owned (op.Owned self.old.inv (length owned))) }
+        ensures follower { (owned : List PathNames) (now : ℕ) → AreOwned (T.meaning table.old) self.old.session owned → IfOk result (λ o. follower_of self.new ≡ next_with (T.meaning table.old) owned now o (follower_of self.old)) }
+        ensures table { OnOk result (T.meaning table.new ≡ called (T.meaning table.old)) }
+    {
+        let Some(paths) = owned_at(table, self.session)? else {
+            return Ok(self.fail(Word::Owned));
+        };
+        let count = paths.len() as u64;
+        self.owned = paths;
+        self.go_on()?;
+        Ok(Op::Owned {
+            function: self.inv,
+            count,
+        })
+    }
+}

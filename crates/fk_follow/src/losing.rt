@@ -1,0 +1,72 @@
+//! A follower settles that it lost a lock.
+
+ghost use Rattle.std.specs.Prelude.{◌≡◌, ◌≤◌, ℕ, List, [], true, false, is_some, IfOk, OnOk};
+ghost use Rattle.fk_base.specs.Path.{PathNames};
+ghost use Rattle.fk_print.specs.declared.op.Word.TheVariants as word;
+ghost use Rattle.fk_store.specs.Meaning.{Meaning};
+ghost use Rattle.fk_store.specs.declared.outcome.Outcome.TheVariants as outcome;
+ghost use Rattle.fk_follow.specs.Next.{next_with};
+ghost use Rattle.fk_follow.specs.Operation.{lost_op, or_fault};
+ghost use Rattle.fk_follow.specs.Said.{lost_by};
+ghost use Rattle.fk_follow.specs.Services.{settled_as};
+ghost use Rattle.fk_follow.specs.Standing.{follower_of, outcome_of};
+ghost use Rattle.fk_follow.specs.Reading.{is_passed};
+
+use crate::follower::Follower;
+use crate::settling::{Verdict, settle};
+use crate::state::{Kept, State};
+use crate::writing::refuse_writes;
+use fk_base::NoMemory;
+use fk_print::{Op, Word};
+use fk_store::Table;
+
+impl Follower {
+    /// It settles its request as this loss, where it is still the session's next.
+    #[tactic(auto, unfolding(crate::specs::Standing::follower_of), using(crate::proofs::Fitting::fit_refusal, crate::proofs::Answering::lost_said))]
+    pub(crate) fn settle_loss<T: Table>(
+        &mut self,
+        table: &mut T,
+        loss: Kept,
+    ) -> Result<Op, NoMemory>
+        requires first { 1 ≤ self.old.k }
+        requires session { is_some ((T.meaning table.old).sessions self.old.session) ≡ true }
+        requires loss { outcome_of loss ≡ (follower_of self.old).outcome }
+        ensures op { IfOk result (λ o. o ≡ or_fault (T.meaning table.old).armed self.old.inv word.Lost (lost_op (T.meaning table.old) self.old.inv (follower_of self.old).follower)) }
+        ensures follower { (t : Meaning) (owned : List PathNames) (now : ℕ) → IfOk result (λ o. follower_of self.new ≡ next_with t owned now o (follower_of self.old)) }
+        ensures table { OnOk result (T.meaning table.new ≡ settled_as (follower_of self.old).outcome [] self.old.inv (follower_of self.old).follower (T.meaning table.old)) }
+    {
+        let writes = refuse_writes(self.alloc, self.session, self.k, loss.outcome()?, &[])?;
+        let verdict = settle(
+            self.alloc,
+            table,
+            self.session,
+            self.k,
+            self.inv,
+            &[],
+            writes.as_slice(),
+        )?;
+        Ok(self.lost(loss, verdict))
+    }
+
+    #[tactic(auto, unfolding(crate::specs::Standing::follower_of))]
+    fn lost(&mut self, loss: Kept, verdict: Verdict) -> Op
+        requires loss { outcome_of loss ≡ (follower_of self.old).outcome }
+        requires verdict { is_passed verdict ≡ false }
+        ensures op { result ≡ lost_by self.old.inv verdict }
+        ensures follower { (t : Meaning) (owned : List PathNames) (now : ℕ) → follower_of self.new ≡ next_with t owned now result (follower_of self.old) }
+    {
+        let function = self.inv;
+        match verdict {
+            Verdict::Done => {
+                self.state = State::Reply(loss);
+                Op::LostOk { function }
+            }
+            Verdict::Settled(settled) => {
+                self.state = State::Session;
+                Op::LostSettled { function, settled }
+            }
+            Verdict::Passed { .. } => unreachable!(),
+            Verdict::Failed => self.fail(Word::Lost),
+        }
+    }
+}

@@ -1,0 +1,72 @@
+//! What a follower reads of the table, copied out of it.
+
+ghost use Rattle.std.specs.Prelude.{◌≡◌, List, true, is_some, if◌then◌else◌, None, Some, IfOk, OnOk};
+ghost use Rattle.fk_base.specs.Path.{PathNames};
+ghost use Rattle.fk_store.specs.Answers.{AreOwned};
+ghost use Rattle.fk_store.specs.Conds.{session_of};
+ghost use Rattle.fk_store.specs.Meaning.{called};
+ghost use Rattle.fk_follow.specs.Reading.{took_of};
+ghost use Rattle.fk_follow.specs.Services.{taken};
+
+use fk_base::{NoMemory, Path, Paths};
+use fk_store::{Lock, Owned, Seen, SessionRecord, Table, Taken};
+use fk_tree::Node;
+
+/// What becomes of taking a lock.
+#[derive(Drop)]
+pub enum Took {
+    Granted { node: Option<Node>, last: u64 },
+    Busy(Lock),
+    Failed,
+}
+
+/// The record of a session, or none where the table fails.
+pub fn session_at<T: Table>(table: &mut T, session: u32) -> Result<Option<SessionRecord>, NoMemory>
+    requires { is_some ((T.meaning table.old).sessions session) ≡ true }
+    ensures record { IfOk result (λ o. o ≡ (if (T.meaning table.old).armed then None else Some (session_of (T.meaning table.old) session))) }
+    ensures table { OnOk result (T.meaning table.new ≡ called (T.meaning table.old)) }
+{
+    match table.session(session) {
+        Seen::Here(kept) => Ok(Some(kept.copy()?)),
+        Seen::Missing => unreachable!(),
+        Seen::Failed => Ok(None),
+    }
+}
+
+/// The paths of a session's nodes, or none where the table fails.
+pub fn owned_at<T: Table>(table: &mut T, session: u32) -> Result<Option<Paths>, NoMemory>
+    requires { is_some ((T.meaning table.old).sessions session) ≡ true }
+    ensures owned { (owned : List PathNames) → AreOwned (T.meaning table.old) session owned → IfOk result (λ o. o ≡ (if (T.meaning table.old).armed then None else Some owned)) }
+    ensures table { OnOk result (T.meaning table.new ≡ called (T.meaning table.old)) }
+{
+    match table.owned(session) {
+        Owned::List(paths) => Ok(Some(paths)),
+        Owned::Failed => Ok(None),
+        Owned::NoMemory => Err(NoMemory),
+    }
+}
+
+/// Takes the lock of a path.
+pub fn take_lock<T: Table>(
+    table: &mut T,
+    path: &Path,
+    inv: u64,
+    now: u64,
+    lock: u64,
+) -> Result<Took, NoMemory>
+    ensures took { IfOk result (λ r. r ≡ took_of (T.meaning table.old) path.now now lock) }
+    ensures table { OnOk result (T.meaning table.new ≡ taken path.now inv now lock (T.meaning table.old)) }
+{
+    match table.take(path, inv, now, lock) {
+        Taken::Granted(kept) => {
+            let kept = kept.copy()?;
+            Ok(Took::Granted {
+                node: kept.node,
+                last: kept.last,
+            })
+        }
+        Taken::Busy(found) => Ok(Took::Busy(found)),
+        Taken::Failed => Ok(Took::Failed),
+        Taken::NoMemory => Err(NoMemory),
+    }
+}

@@ -1,0 +1,104 @@
+//! A follower tells its client what was kept of the request, and acknowledges its message.
+
+ghost use Rattle.std.specs.Prelude.{◌≡◌, ◌-◌, ◌<◌, ◌^◌, ℕ, List, true, Some, IfOk, OnOk};
+ghost use Rattle.fk_base.specs.Path.{PathNames};
+ghost use Rattle.fk_print.specs.declared.op.Op.TheVariants as op;
+ghost use Rattle.fk_print.specs.declared.op.Word.TheVariants as word;
+ghost use Rattle.fk_queue.specs.Answers.{ack_of, after_ack};
+ghost use Rattle.fk_queue.specs.Letters.{head_number};
+ghost use Rattle.fk_queue.specs.Meaning.{has_lane};
+ghost use Rattle.fk_queue.specs.Posts.{post_of};
+ghost use Rattle.fk_queue.specs.declared.lane.Lane.TheVariants as lane;
+ghost use Rattle.fk_store.specs.Meaning.{Meaning};
+ghost use Rattle.fk_spec.specs.Follower.{ack_op};
+ghost use Rattle.fk_wire.specs.Limits.{IsNumber};
+ghost use Rattle.fk_follow.specs.Fit.{IsLimitedOutcome};
+ghost use Rattle.fk_follow.specs.Next.{next_with};
+ghost use Rattle.fk_follow.specs.Operation.{or_fault};
+ghost use Rattle.fk_follow.specs.Said.{ack_by};
+ghost use Rattle.fk_follow.specs.Services.{kept_tell, told};
+ghost use Rattle.fk_follow.specs.Standing.{follower_of, outcome_of};
+
+use crate::follower::Follower;
+use crate::state::{Kept, State};
+use fk_base::NoMemory;
+use fk_print::{Op, Word};
+use fk_queue::{Ack, Lane, Post, Posted};
+use fk_wire::{Tell, encode_tell};
+
+fn tell_of(k: u64, kept: Kept) -> Tell
+    ensures { kept_tell k (outcome_of kept) ≡ Some result }
+{
+    match kept {
+        Kept::Refused { code, at, place } => Tell::Refused { k, code, at, place },
+        Kept::Lost {
+            path,
+            own,
+            found,
+            moment,
+        } => Tell::Lost {
+            k,
+            path,
+            own,
+            found,
+            moment,
+        },
+    }
+}
+
+impl Follower {
+    /// It tells what was kept.
+    #[tactic(auto, unfolding(crate::specs::Standing::follower_of))]
+    pub(crate) fn reply(&mut self, post: &mut Post, kept: Kept) -> Result<Op, NoMemory>
+        requires k { IsNumber self.old.k }
+        requires limits { IsLimitedOutcome (outcome_of kept) }
+        requires lane { has_lane (post_of post.old) (lane.Inbox self.old.session) ≡ true }
+        requires room { ((post_of post.old).lanes (lane.Inbox self.old.session)).given < 2 ^ 63 - 1 }
+        ensures op { IfOk result (λ o. o ≡ or_fault (post_of post.old).armed self.old.inv word.Reply (op.Reply self.old.inv self.old.session self.old.k)) }
+        ensures follower { (t : Meaning) (owned : List PathNames) (now : ℕ) → IfOk result (λ o. follower_of self.new ≡ next_with t owned now o (follower_of self.old)) }
+        ensures post { OnOk result (post_of post.new ≡ told self.old.session (kept_tell self.old.k (outcome_of kept)) (post_of post.old)) }
+    {
+        let tell = tell_of(self.k, kept);
+        let text = encode_tell(self.alloc, &tell)?;
+        match post.push(Lane::Inbox(self.session), text.as_slice()) {
+            Posted::At(_) => {
+                self.state = State::Ack;
+                Ok(Op::Reply {
+                    function: self.inv,
+                    session: self.session,
+                    k: self.k,
+                })
+            }
+            Posted::Failed => Ok(self.fail(Word::Reply)),
+            Posted::NoMemory => Err(NoMemory),
+        }
+    }
+
+    /// It removes its message, where that is its lane's head, and ends.
+    #[tactic(auto, unfolding(crate::specs::Standing::follower_of), using(crate::proofs::Answering::ack_said))]
+    pub(crate) fn ack(&mut self, post: &mut Post) -> Op
+        requires { has_lane (post_of post.old) (lane.Session self.old.session) ≡ true }
+        ensures op { result ≡ or_fault (post_of post.old).armed self.old.inv word.Ack (ack_op self.old.inv self.old.k (head_number ((post_of post.old).lanes (lane.Session self.old.session)))) }
+        ensures follower { (t : Meaning) (owned : List PathNames) (now : ℕ) → follower_of self.new ≡ next_with t owned now result (follower_of self.old) }
+        ensures post { post_of post.new ≡ after_ack (post_of post.old) (lane.Session self.old.session) (ack_of (post_of post.old) (lane.Session self.old.session) self.old.k) }
+    {
+        let answer = post.ack(Lane::Session(self.session), self.k);
+        self.acked(answer)
+    }
+
+    #[tactic(auto, unfolding(crate::specs::Standing::follower_of))]
+    fn acked(&mut self, answer: Ack) -> Op
+        ensures op { result ≡ ack_by self.old.inv answer }
+        ensures follower { (t : Meaning) (owned : List PathNames) (now : ℕ) → follower_of self.new ≡ next_with t owned now result (follower_of self.old) }
+    {
+        self.state = State::Ended;
+        match answer {
+            Ack::Acked => Op::AckOk { function: self.inv },
+            Ack::NotHead => Op::AckGone { function: self.inv },
+            Ack::Failed => Op::Fault {
+                function: self.inv,
+                word: Word::Ack,
+            },
+        }
+    }
+}

@@ -1,0 +1,232 @@
+//! A follower's transactions: it commits its push, refuses its request, or settles that it lost a lock.
+
+ghost use Rattle.std.specs.Prelude.{◌≡◌, ◌≤◌, ℕ, List, [], true, is_some, IfOk, OnOk};
+ghost use Rattle.fk_base.specs.Path.{PathNames};
+ghost use Rattle.fk_base.specs.declared.code.Code.TheVariants as code;
+ghost use Rattle.fk_print.specs.declared.op.Word.TheVariants as word;
+ghost use Rattle.fk_store.specs.declared.outcome.Outcome.TheVariants as outcome;
+ghost use Rattle.fk_store.specs.Meaning.{Meaning};
+ghost use Rattle.fk_follow.specs.Next.{losing, next_with};
+ghost use Rattle.fk_follow.specs.Operation.{commit_op, expire_op, locked, or_fault, paths_of};
+ghost use Rattle.fk_follow.specs.Said.{commit_by, refuse_by, refuse_on};
+ghost use Rattle.fk_follow.specs.Services.{committed, push_at, settled_as};
+ghost use Rattle.fk_follow.specs.Standing.{follower_of};
+
+use crate::follower::Follower;
+use crate::granted::own_moment;
+use crate::ordering::in_order;
+use crate::settling::{Verdict, settle};
+use crate::state::{Kept, State};
+use crate::writing::{commit_writes, refuse_writes};
+use fk_base::{Code, NoMemory, Path, Paths};
+use fk_print::{Op, Word};
+use fk_store::{Outcome, Table};
+
+impl Follower {
+    /// The paths of its locks, in the order of their grants.
+    #[tactic(auto, unfolding(crate::specs::Standing::follower_of))]
+    pub(crate) fn paths(&self) -> Result<Paths, NoMemory>
+        ensures { IfOk result (λ ps. ps ≡ paths_of (follower_of self.now).follower.granted) }
+    {
+        let mut paths = Paths::new(self.alloc);
+        'listing: for lock in self.granted.as_slice() {
+            paths.push(lock.path.copy()?)?;
+        }
+        Ok(paths)
+    }
+
+    // those paths in path order
+    fn locked(&self) -> Result<Vec<Path>, NoMemory>
+        ensures { IfOk result (λ ps. ps.items ≡ locked (follower_of self.now).follower) }
+    {
+        let paths = self.paths()?;
+        in_order(self.alloc, paths.as_slice())
+    }
+
+    // the lock of a path had passed on
+    #[tactic(auto, unfolding(crate::specs::Standing::follower_of))]
+    fn lose(&mut self, path: &Path, holder: u64, moment: u64) -> Result<(), NoMemory>
+        ensures { OnOk result (follower_of self.new ≡ losing path.now holder moment (follower_of self.old)) }
+    {
+        self.state = State::Lost {
+            path: path.copy()?,
+            own: own_moment(self.granted.as_slice(), path),
+            found: holder,
+            moment,
+        };
+        Ok(())
+    }
+}
+
+impl Follower {
+    /// It commits its push, which it made at this moment.
+    #[tactic(auto, unfolding(crate::specs::Standing::follower_of), using(crate::proofs::Fitting::fit_commit, crate::proofs::Answering::commit_said))]
+    pub(crate) fn commit<T: Table>(
+        &mut self,
+        table: &mut T,
+        tx: u64,
+        moment: u64,
+    ) -> Result<Op, NoMemory>
+        requires first { 1 ≤ self.old.k }
+        requires session { is_some ((T.meaning table.old).sessions self.old.session) ≡ true }
+        ensures op { IfOk result (λ o. o ≡ or_fault (T.meaning table.old).armed self.old.inv word.Commit (commit_op (T.meaning table.old) self.old.inv tx (follower_of self.old).follower)) }
+        ensures follower { (t : Meaning) (owned : List PathNames) (now : ℕ) → IfOk result (λ o. follower_of self.new ≡ next_with t owned now o (follower_of self.old)) }
+        ensures table { OnOk result (T.meaning table.new ≡ committed tx (push_at moment (follower_of self.old)) (T.meaning table.old)) }
+    {
+        let push = self.pushed(moment)?;
+        let paths = self.locked()?;
+        let writes = commit_writes(self.alloc, tx, &push, paths.as_slice())?;
+        let verdict = settle(
+            self.alloc,
+            table,
+            self.session,
+            self.k,
+            self.inv,
+            paths.as_slice(),
+            writes.as_slice(),
+        )?;
+        self.committed(tx, verdict)
+    }
+
+    #[tactic(auto, unfolding(crate::specs::Standing::follower_of))]
+    fn committed(&mut self, tx: u64, verdict: Verdict) -> Result<Op, NoMemory>
+        ensures op { IfOk result (λ o. o ≡ commit_by self.old.inv tx verdict) }
+        ensures follower { (t : Meaning) (owned : List PathNames) (now : ℕ) → IfOk result (λ o. follower_of self.new ≡ next_with t owned now o (follower_of self.old)) }
+    {
+        let function = self.inv;
+        match verdict {
+            Verdict::Done => {
+                self.state = State::Ack;
+                Ok(Op::CommitOk { function, tx })
+            }
+            Verdict::Settled(settled) => {
+                self.state = State::Session;
+                Ok(Op::CommitSettled {
+                    function,
+                    tx,
+                    settled,
+                })
+            }
+            Verdict::Passed {
+                path,
+                holder,
+                moment,
+            } => {
+                self.lose(&path, holder, moment)?;
+                Ok(Op::CommitLock {
+                    function,
+                    tx,
+                    path,
+                    holder,
+                    moment,
+                })
+            }
+            Verdict::Failed => Ok(self.fail(Word::Commit)),
+        }
+    }
+
+    /// Its request was refused: it settles that under the conditions of a commit.
+    pub(crate) fn refuse<T: Table>(
+        &mut self,
+        table: &mut T,
+        code: Code,
+        place: u32,
+        at: u64,
+    ) -> Result<Op, NoMemory>
+        requires first { 1 ≤ self.old.k }
+        requires session { is_some ((T.meaning table.old).sessions self.old.session) ≡ true }
+        ensures op { IfOk result (λ o. o ≡ or_fault (T.meaning table.old).armed self.old.inv word.Refuse (refuse_on (T.meaning table.old) self.old.inv (record { code = code; place = place }) at (follower_of self.old).follower (locked (follower_of self.old).follower))) }
+        ensures follower { (t : Meaning) (owned : List PathNames) (now : ℕ) → IfOk result (λ o. follower_of self.new ≡ next_with t owned now o (follower_of self.old)) }
+        ensures table { OnOk result (T.meaning table.new ≡ settled_as (outcome.Refused code at place) (locked (follower_of self.old).follower) self.old.inv (follower_of self.old).follower (T.meaning table.old)) }
+    {
+        let paths = self.locked()?;
+        self.refuse_with(table, code, place, at, paths.as_slice())
+    }
+
+    /// Its session is closed: it settles that the request is refused, whatever its locks.
+    pub(crate) fn expire<T: Table>(&mut self, table: &mut T, at: u64) -> Result<Op, NoMemory>
+        requires first { 1 ≤ self.old.k }
+        requires session { is_some ((T.meaning table.old).sessions self.old.session) ≡ true }
+        ensures op { IfOk result (λ o. o ≡ or_fault (T.meaning table.old).armed self.old.inv word.Refuse (expire_op (T.meaning table.old) self.old.inv at (follower_of self.old).follower)) }
+        ensures follower { (t : Meaning) (owned : List PathNames) (now : ℕ) → IfOk result (λ o. follower_of self.new ≡ next_with t owned now o (follower_of self.old)) }
+        ensures table { OnOk result (T.meaning table.new ≡ settled_as (outcome.Refused code.SessionExpired at 0) [] self.old.inv (follower_of self.old).follower (T.meaning table.old)) }
+    {
+        self.refuse_with(table, Code::SessionExpired, 0, at, &[])
+    }
+
+    // settles a refusal where these locks are held
+    #[tactic(auto, unfolding(crate::specs::Standing::follower_of), using(crate::proofs::Fitting::fit_refusal, crate::proofs::Answering::refuse_said))]
+    fn refuse_with<T: Table>(
+        &mut self,
+        table: &mut T,
+        code: Code,
+        place: u32,
+        at: u64,
+        paths: &[Path],
+    ) -> Result<Op, NoMemory>
+        requires first { 1 ≤ self.old.k }
+        requires session { is_some ((T.meaning table.old).sessions self.old.session) ≡ true }
+        ensures op { IfOk result (λ o. o ≡ or_fault (T.meaning table.old).armed self.old.inv word.Refuse (refuse_on (T.meaning table.old) self.old.inv (record { code = code; place = place }) at (follower_of self.old).follower paths.now)) }
+        ensures follower { (t : Meaning) (owned : List PathNames) (now : ℕ) → IfOk result (λ o. follower_of self.new ≡ next_with t owned now o (follower_of self.old)) }
+        ensures table { OnOk result (T.meaning table.new ≡ settled_as (outcome.Refused code at place) paths.now self.old.inv (follower_of self.old).follower (T.meaning table.old)) }
+    {
+        let outcome = Outcome::Refused { code, at, place };
+        let writes = refuse_writes(self.alloc, self.session, self.k, outcome, paths)?;
+        let verdict = settle(
+            self.alloc,
+            table,
+            self.session,
+            self.k,
+            self.inv,
+            paths,
+            writes.as_slice(),
+        )?;
+        self.refused(code, place, at, verdict)
+    }
+
+    #[tactic(auto, unfolding(crate::specs::Standing::follower_of))]
+    fn refused(&mut self, code: Code, place: u32, at: u64, verdict: Verdict) -> Result<Op, NoMemory>
+        ensures op { IfOk result (λ o. o ≡ refuse_by self.old.inv (record { code = code; place = place }) at verdict) }
+        ensures follower { (t : Meaning) (owned : List PathNames) (now : ℕ) → IfOk result (λ o. follower_of self.new ≡ next_with t owned now o (follower_of self.old)) }
+    {
+        let function = self.inv;
+        match verdict {
+            Verdict::Done => {
+                self.state = State::Reply(Kept::Refused { code, at, place });
+                Ok(Op::RefuseOk {
+                    function,
+                    code,
+                    place,
+                    at,
+                })
+            }
+            Verdict::Settled(settled) => {
+                self.state = State::Session;
+                Ok(Op::RefuseSettled {
+                    function,
+                    code,
+                    place,
+                    at,
+                    settled,
+                })
+            }
+            Verdict::Passed {
+                path,
+                holder,
+                moment,
+            } => {
+                self.lose(&path, holder, moment)?;
+                Ok(Op::RefuseLock {
+                    function,
+                    code,
+                    place,
+                    at,
+                    path,
+                    holder,
+                    moment,
+                })
+            }
+            Verdict::Failed => Ok(self.fail(Word::Refuse)),
+        }
+    }
+}
