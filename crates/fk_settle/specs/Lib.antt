@@ -1,0 +1,4 @@
+pub mod Held
+pub mod Missing
+pub mod Transaction
+pub mod Verdicts
