@@ -1,7 +1,5 @@
 pub mod Answering
-pub mod Fitting
 pub mod Going
 pub mod Items
 pub mod Owning
 pub mod Stages
-pub mod Verdicts

@@ -1,12 +1,10 @@
 pub mod Deciding
 pub mod Fit
 pub mod Meaning
-pub mod Missing
 pub mod Next
 pub mod Operation
 pub mod Reading
 pub mod Said
 pub mod Services
 pub mod Standing
-pub mod Transaction
 pub mod Worked

@@ -1,5 +1,5 @@
 -- The operation that a follower makes, by what it reads of the services.
-use Rattle.std.specs.Prelude.{ℕ, ◌+◌, ◌==◌, Bool, false, if◌then◌else◌, List, [], ◌∷◌, length, map, Option, Some, None}
+use Rattle.std.specs.Prelude.{ℕ, ◌+◌, ◌==◌, Bool, false, if◌then◌else◌, List, [], ◌∷◌, length, map, option_map, Option, Some, None}
 use Rattle.fk_base.specs.Path.{PathNames}
 use Rattle.fk_base.specs.declared.code.Code.TheVariants as code
 use Rattle.fk_tree.specs.Check.{Refusal}
@@ -11,7 +11,7 @@ use Rattle.fk_queue.specs.Letters.{head_number}
 use Rattle.fk_queue.specs.Meaning as post
 use Rattle.fk_queue.specs.declared.lane.Lane.TheVariants as lane
 use Rattle.fk_store.specs.Conds.{session_of}
-use Rattle.fk_store.specs.Locks.{is_free, is_held_by}
+use Rattle.fk_store.specs.Locks.{is_free}
 use Rattle.fk_store.specs.Meaning as table
 use Rattle.fk_store.specs.Meaning.{lock_of}
 use Rattle.fk_store.specs.declared.lock.Lock.{Lock}
@@ -21,7 +21,8 @@ use Rattle.fk_store.specs.declared.session_record.SessionRecord.{SessionRecord}
 use Rattle.fk_spec.specs.Follower.{Follower, Granted, Stage, ack_op, commit_locked, refuse_locked, unsettled_op}
 use Rattle.fk_spec.specs.Follower as stage
 use Rattle.fk_spec.specs.Function.{follower_word}
-use Rattle.fk_spec.specs.Locks.{Passed}
+use Rattle.fk_spec.specs.Locks as locks
+use Rattle.fk_settle.specs.Held.{Passed, first_passed}
 use Rattle.fk_follow.specs.Meaning.{Meaning}
 
 -- ---- what is read of the table
@@ -46,22 +47,22 @@ paths_of gs = map (λ g. g.path) gs
 abbrev pub locked : Follower → List PathNames
 locked f = in_path_order (paths_of f.granted)
 
-abbrev pub passed_on : PathNames → Lock → Passed
-passed_on p l = record { path = p; holder = l.inv; moment = l.moment }
+-- a path whose lock passed on, as a history says it
+abbrev pub passed_as : Passed → locks.Passed
+passed_as x = record { path = x.path; holder = x.holder; moment = x.moment }
 
 -- the first of the paths whose lock isn't held by invocation n
-abbrev pub first_passed : ℕ → table.Meaning → List PathNames → Option Passed
-first_passed n t [] = None
-first_passed n t (p ∷ ps) = if is_held_by n (lock_of t p) then first_passed n t ps else Some (passed_on p (lock_of t p))
+abbrev pub lock_passed : ℕ → table.Meaning → List PathNames → Option locks.Passed
+lock_passed n t ps = option_map passed_as (first_passed n t ps)
 
 abbrev pub commit_op : table.Meaning → ℕ → ℕ → Follower → Op
 commit_op t n tx f =
-    if (session_of t f.session).settled + 1 == f.k then commit_locked n tx (first_passed n t (locked f)) else op.CommitSettled n tx (session_of t f.session).settled
+    if (session_of t f.session).settled + 1 == f.k then commit_locked n tx (lock_passed n t (locked f)) else op.CommitSettled n tx (session_of t f.session).settled
 
 -- a refusal is settled under the same conditions
 abbrev pub refuse_op : table.Meaning → ℕ → Refusal → ℕ → Follower → Op
 refuse_op t n r at f =
-    if (session_of t f.session).settled + 1 == f.k then refuse_locked n r at (first_passed n t (locked f)) else op.RefuseSettled n r.code r.place at (session_of t f.session).settled
+    if (session_of t f.session).settled + 1 == f.k then refuse_locked n r at (lock_passed n t (locked f)) else op.RefuseSettled n r.code r.place at (session_of t f.session).settled
 
 -- a request of a closed session is refused under the first of them alone, and so is a loss settled
 abbrev pub expire_op : table.Meaning → ℕ → ℕ → Follower → Op

@@ -1,29 +1,17 @@
 -- What is read of the table, in a follower's words.
-use Rattle.std.specs.Prelude.{ℕ, ◌+◌, ◌==◌, Bool, true, false, if◌then◌else◌, List, Option, Some, None}
+use Rattle.std.specs.Prelude.{ℕ, Bool, true, false, if◌then◌else◌}
 use Rattle.fk_base.specs.Path.{PathNames}
-use Rattle.fk_store.specs.Conds.{session_of}
 use Rattle.fk_store.specs.Locks.{is_free}
 use Rattle.fk_store.specs.Meaning.{Meaning, lock_of, or_no_record}
-use Rattle.fk_spec.specs.Locks.{Passed}
-use Rattle.fk_follow.specs.Operation.{first_passed}
 use Rattle.fk_follow.specs.declared.reading.Took.{Took}
 use Rattle.fk_follow.specs.declared.reading.Took.TheVariants as took
-use Rattle.fk_follow.specs.declared.settling.Verdict.{Verdict}
-use Rattle.fk_follow.specs.declared.settling.Verdict.TheVariants as verdict
+use Rattle.fk_settle.specs.declared.settling.Verdict.{Verdict}
+use Rattle.fk_settle.specs.declared.settling.Verdict.TheVariants as verdict
 
 -- what becomes of taking a lock
 abbrev pub took_of : Meaning → PathNames → ℕ → ℕ → Took
 took_of t p now time =
     if t.armed then took.Failed else if is_free now time (lock_of t p) then took.Granted (or_no_record (t.nodes p)).node (or_no_record (t.nodes p)).last else took.Busy (lock_of t p)
-
-abbrev pub verdict_on : Option Passed → Verdict
-verdict_on None = verdict.Done
-verdict_on (Some x) = verdict.Passed x.path x.holder x.moment
-
--- what becomes of a transaction that settles request k of a session where these locks are held
-abbrev pub verdict_of : Meaning → ℕ → ℕ → ℕ → List PathNames → Verdict
-verdict_of t session k inv ps =
-    if t.armed then verdict.Failed else if (session_of t session).settled + 1 == k then verdict_on (first_passed inv t ps) else verdict.Settled (session_of t session).settled
 
 -- whether a lock had passed on
 abbrev pub is_passed : Verdict → Bool

@@ -28,7 +28,7 @@ use Rattle.fk_spec.specs.Follower as stage
 use Rattle.fk_spec.specs.Stored.{owned_among}
 use Rattle.fk_follow.specs.Meaning.{Meaning}
 use Rattle.fk_follow.specs.Operation.{locked, paths_of}
-use Rattle.fk_follow.specs.Transaction.{commit_conds, commit_writes, refuse_writes, settle_conds, transacted}
+use Rattle.fk_settle.specs.Transaction.{commit_conds, commit_writes, refuse_writes, settle_conds, transacted}
 
 -- ---- messages
 

@@ -40,7 +40,7 @@ impl Follower {
     }
 
     // the record says whether the request is the session's next, its last one, or one that is past
-    #[tactic(auto, unfolding(crate::specs::Standing::follower_of), using(crate::proofs::Verdicts::next_is))]
+    #[tactic(auto, unfolding(crate::specs::Standing::follower_of), using(fk_settle::proofs::Verdicts::next_is))]
     fn answered(&mut self, shown: &SessionRecord) -> Result<Op, NoMemory>
         requires first { 1 ≤ self.old.k }
         requires parts { HasFewParts self.old.message.request }

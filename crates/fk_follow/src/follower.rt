@@ -10,9 +10,9 @@ ghost use Rattle.fk_follow.specs.Standing.{follower_of};
 use crate::deciding::next_state;
 use crate::granted::Granted;
 use crate::state::State;
-use crate::writing::closes;
 use fk_base::{NoMemory, Paths};
 use fk_print::{Op, Word};
+use fk_settle::closes;
 use fk_wire::Sent;
 use std::alloc::Global;
 

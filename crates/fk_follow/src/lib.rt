@@ -9,17 +9,14 @@ mod follower;
 mod granted;
 mod locking;
 mod losing;
-mod ordering;
 mod pushing;
 mod reading;
-mod settling;
 mod state;
 mod stepping;
 mod taking;
 mod telling;
 mod transacting;
 mod worked;
-mod writing;
 
 pub use follower::Follower;
 pub use worked::{create_runs, fault_ends, orphan_is_refused};

@@ -7,8 +7,8 @@ ghost use Rattle.fk_spec.specs.Follower.{node_in, view_of};
 ghost use Rattle.fk_follow.specs.Standing.{grants_of};
 
 use crate::granted::{Granted, node_in};
-use crate::ordering::in_order;
 use fk_base::{NoMemory, Path};
+use fk_settle::in_order;
 use fk_tree::{Part, Request, final_path};
 use std::alloc::Global;
 

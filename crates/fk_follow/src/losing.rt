@@ -13,16 +13,15 @@ ghost use Rattle.fk_follow.specs.Standing.{follower_of, outcome_of};
 ghost use Rattle.fk_follow.specs.Reading.{is_passed};
 
 use crate::follower::Follower;
-use crate::settling::{Verdict, settle};
 use crate::state::{Kept, State};
-use crate::writing::refuse_writes;
 use fk_base::NoMemory;
 use fk_print::{Op, Word};
+use fk_settle::{Verdict, refuse_writes, settle};
 use fk_store::Table;
 
 impl Follower {
     /// It settles its request as this loss, where it is still the session's next.
-    #[tactic(auto, unfolding(crate::specs::Standing::follower_of), using(crate::proofs::Fitting::fit_refusal, crate::proofs::Answering::lost_said))]
+    #[tactic(auto, unfolding(crate::specs::Standing::follower_of), using(fk_settle::proofs::Fitting::fit_refuse, crate::proofs::Answering::lost_said))]
     pub(crate) fn settle_loss<T: Table>(
         &mut self,
         table: &mut T,

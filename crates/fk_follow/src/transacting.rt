@@ -14,12 +14,10 @@ ghost use Rattle.fk_follow.specs.Standing.{follower_of};
 
 use crate::follower::Follower;
 use crate::granted::own_moment;
-use crate::ordering::in_order;
-use crate::settling::{Verdict, settle};
 use crate::state::{Kept, State};
-use crate::writing::{commit_writes, refuse_writes};
 use fk_base::{Code, NoMemory, Path, Paths};
 use fk_print::{Op, Word};
+use fk_settle::{Verdict, commit_writes, in_order, refuse_writes, settle};
 use fk_store::{Outcome, Table};
 
 impl Follower {
@@ -60,7 +58,7 @@ impl Follower {
 
 impl Follower {
     /// It commits its push, which it made at this moment.
-    #[tactic(auto, unfolding(crate::specs::Standing::follower_of), using(crate::proofs::Fitting::fit_commit, crate::proofs::Answering::commit_said))]
+    #[tactic(auto, unfolding(crate::specs::Standing::follower_of), using(fk_settle::proofs::Fitting::fit_commit, crate::proofs::Answering::commit_said))]
     pub(crate) fn commit<T: Table>(
         &mut self,
         table: &mut T,
@@ -155,7 +153,7 @@ impl Follower {
     }
 
     // settles a refusal where these locks are held
-    #[tactic(auto, unfolding(crate::specs::Standing::follower_of), using(crate::proofs::Fitting::fit_refusal, crate::proofs::Answering::refuse_said))]
+    #[tactic(auto, unfolding(crate::specs::Standing::follower_of), using(fk_settle::proofs::Fitting::fit_refuse, crate::proofs::Answering::refuse_said))]
     fn refuse_with<T: Table>(
         &mut self,
         table: &mut T,

@@ -59,7 +59,7 @@ hold_verdict i t inv (p ∷ ps) = step (is_held_by inv (lock_of t p)) (missed_fr
     step false o l h = rw (itself i) refl
 
 -- request k is the next to settle
-next_is : (n k : ℕ) → 1 ≤ k → (n == (k - 1)) ≡ (n + 1 == k)
+pub next_is : (n k : ℕ) → 1 ≤ k → (n == (k - 1)) ≡ (n + 1 == k)
 next_is n k l = grind (arith, nat_tests)
 
 pub verdict_is : (t : Meaning) (session k inv : ℕ) (ps : List PathNames) → 1 ≤ k → t.armed ≡ false → missed_as 1 ps (first_missed t (settle_conds session k inv ps)) ≡ verdict_of t session k inv ps

@@ -10,4 +10,4 @@ mod writing;
 pub use committing::commit;
 pub use ordering::in_order;
 pub use settling::{Verdict, settle, settle_conds};
-pub use writing::{applied_as, commit_writes, refuse_writes};
+pub use writing::{applied_as, closes, commit_writes, refuse_writes};

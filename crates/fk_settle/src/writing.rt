@@ -38,7 +38,8 @@ fn push_releases(writes: &mut Vec<Write>, paths: &[Path]) -> Result<(), NoMemory
     Ok(())
 }
 
-fn closes(request: &Request) -> bool
+/// Whether a request closes its session.
+pub fn closes(request: &Request) -> bool
     ensures { result ≡ closes request.now }
 {
     match request {

@@ -1,6 +1,0 @@
-use Rattle.std.proofs.Common.{◌≡◌, ◌++◌, drop}
-use Rattle.fk_follow.specs.Transaction.{hold_conds, settle_conds}
-use Rattle.fk_follow.proofs.settling.settle_conds.Given as goal
-
-abbrev pub invariant-holding : goal.invariant-holding
-invariant-holding l = l.conds.items ++ hold_conds l.inv (drop l.path-index l.paths) ≡ settle_conds l.session l.k l.inv l.paths

@@ -1,6 +1,0 @@
-use Rattle.std.proofs.Common.{◌≡◌, ◌++◌, drop}
-use Rattle.fk_follow.specs.Transaction.{release_writes}
-use Rattle.fk_follow.proofs.writing.push_releases.Given as goal
-
-abbrev pub invariant-releasing : goal.invariant-releasing
-invariant-releasing l = l.writes.items ++ release_writes (drop l.path-index l.paths) ≡ l.initial.writes.items ++ release_writes l.paths
