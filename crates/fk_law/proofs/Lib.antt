@@ -1,10 +1,16 @@
+pub mod Clients
 pub mod Closing
 pub mod Committing
+pub mod Deciding
 pub mod Due
+pub mod Editing
+pub mod Filling
 pub mod Finding
+pub mod Fitting
 pub mod Growing
 pub mod Knowing
 pub mod Leading
+pub mod Leaving
 pub mod Living
 pub mod Locking
 pub mod Losing
@@ -14,7 +20,10 @@ pub mod Numbers
 pub mod Outcomes
 pub mod Passing
 pub mod Pushing
+pub mod Recording
 pub mod Rising
+pub mod Seeing
 pub mod Sending
 pub mod Settled
+pub mod Standing
 pub mod Starting

@@ -29,7 +29,7 @@ pub held_own : (n : ℕ) (h : List Entry) (g : Option Grant) → is_held_by n h 
 held_own n h None e = absurd (false≢true e)
 held_own n h (Some g) e = grind (arith, nat_tests)
 
-own_same : (n m : ℕ) (g : Option Grant) → IsOwn n g → IsOwn m g → n ≡ m
+pub own_same : (n m : ℕ) (g : Option Grant) → IsOwn n g → IsOwn m g → n ≡ m
 own_same n m None a b = absurd a
 own_same n m (Some g) a b = grind arith
 
@@ -47,7 +47,7 @@ commit_meets p a u t n s m path h l d x y e g o =
 lock_before : (n m : ℕ) (q path : PathNames) (ps : List PathNames) → (m ≡ n → ⊥) → has_path path (granted_in n (op.LockOk m q) ps) ≡ true → has_path path ps ≡ true
 lock_before n m q path ps f g = grind (arith, nat_tests)
 
-own_before : (n m : ℕ) (q path : PathNames) (h : List Entry) → (m ≡ n → ⊥) → IsOwn n (grant_in path (clock_of h) (op.LockOk m q) (last_grant path h)) → IsOwn n (last_grant path h)
+pub own_before : (n m : ℕ) (q path : PathNames) (h : List Entry) → (m ≡ n → ⊥) → IsOwn n (grant_in path (clock_of h) (op.LockOk m q) (last_grant path h)) → IsOwn n (last_grant path h)
 own_before n m q path h f g = grind (arith, nat_tests)
 
 meets_step : (p : Plan) (t n s m : ℕ) (path : PathNames) (h : List Entry) (o : Op) → IsHistory p h → IsDue p h o → Before t n s m path h

@@ -1,5 +1,6 @@
 pub mod Closing
 pub mod Due
+pub mod Fitting
 pub mod Functions
 pub mod Growing
 pub mod Knowing
@@ -11,4 +12,6 @@ pub mod Progress
 pub mod Pushes
 pub mod Requests
 pub mod Rising
+pub mod Seeing
+pub mod Sessions
 pub mod Settled

@@ -4,6 +4,8 @@
 mod closed_sessions;
 mod commit_order;
 mod due_entries;
+mod fitting_pushes;
+mod follower_views;
 mod functions;
 mod last_commits;
 mod leader_lane;
@@ -14,6 +16,7 @@ mod lost_locks;
 mod pushes;
 mod request_outcomes;
 mod sent_requests;
+mod sessions;
 mod settlings;
 mod shown_losses;
 
@@ -23,6 +26,14 @@ pub use commit_order::{
     committer_holds_its_paths, one_of_two_commits,
 };
 pub use due_entries::every_entry_is_due;
+pub use fitting_pushes::{
+    commits_fit, live_push_edits_what_it_locked, live_push_fits, only_the_holder_edits,
+    push_locks_what_it_edits, stored_tree_is_shown,
+};
+pub use follower_views::{
+    follower_decides_from_its_views, grants_are_the_first_lock_paths, owned_list_is_complete,
+    records_are_of_its_grants, view_is_current_while_the_lock_is_own,
+};
 pub use functions::{
     function_does_its_task, in_flight_are_numbered, started_are_numbered, task_never_changes,
     teller_works_at_or_below_the_head,
@@ -58,6 +69,7 @@ pub use sent_requests::{
     committed_is_filled, committed_never_changes, filled_is_committed, push_asks_for_its_request,
     pushed_never_changes, request_never_changes, request_was_sent, sent_has_a_request,
 };
+pub use sessions::follows_a_client;
 pub use settlings::{
     answered_is_settled, at_work_is_unpushed, commits_once, committed_is_settled,
     message_is_reached, settled_is_removed_or_one_more, settled_once, settled_were_sent,

@@ -1,0 +1,31 @@
+ghost use Rattle.fk_law.specs.Fitting.{CommitsFit, LivePushEditsWhatItLocked, LivePushFits, OnlyTheHolderEdits, PushLocksWhatItEdits, StoredTreeIsShown};
+
+/// A law: a live push, filled from what the commits left, fits that.
+pub fn live_push_fits()
+    ensures { LivePushFits }
+{}
+
+/// A law: what a live push would edit was granted to its function.
+pub fn live_push_edits_what_it_locked()
+    ensures { LivePushEditsWhatItLocked }
+{}
+
+/// A law: what a commit edited was granted to its push's function.
+pub fn push_locks_what_it_edits()
+    ensures { PushLocksWhatItEdits }
+{}
+
+/// A law: where a push commits, each path that it edits was granted to its function last.
+pub fn only_the_holder_edits()
+    ensures { OnlyTheHolderEdits }
+{}
+
+/// A law: each commit fits what those before it left.
+pub fn commits_fit()
+    ensures { CommitsFit }
+{}
+
+/// A law: the tree after all commits is well formed and shows what their edits show.
+pub fn stored_tree_is_shown()
+    ensures { StoredTreeIsShown }
+{}
