@@ -57,7 +57,7 @@ only_the_holder_edits p a t n c k h y path l b d w q v =
     let x = (commit_is p a t h l d).live in
     subst (λ m. IsOwn m (last_grant path h)) (its_push_is_one t x.function x.session x.k n c k h x.is_of w).0 (x.own path (((seen p h l b).pushes t x y q).1 path v))
 
-one_applied : (t : ℕ) (a b : Applied) (done : List Applied) → a.tx ≡ t → applied_as t (a ∷ done) ≡ Some b → a ≡ b
+pub one_applied : (t : ℕ) (a b : Applied) (done : List Applied) → a.tx ≡ t → applied_as t (a ∷ done) ≡ Some b → a ≡ b
 one_applied t a b done e f = grind (arith, nat_tests)
 
 locks_step : (p : Plan) (t n c k : ℕ) (h : List Entry) (a : Applied) (o : Op) → IsHistory p h → BeatsClients h → IsDue p h o → (committed_as p t h ≡ Some a → Within (edited_paths a) (granted n h)) → IsPushOf t n c k h → applied_as t (committed_in p h o (committed_of p h)) ≡ Some a → Within (edited_paths a) (granted n h)

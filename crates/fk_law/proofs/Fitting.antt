@@ -73,18 +73,26 @@ live_before p t e h l x w = record {
   own = λ q g. own_held_on x.function q h e.op (λ path b. no_more_locks p t x.function path h l.0 (subst (IsDue p h) b (due p e h l)) (is_push_of_it t x.function x.session x.k h w)) (x.own q (granted_stays x.function q e h g));
 }
 
-pushed_one : (a b : Pushed) (o : Option Pushed) → o ≡ Some a → o ≡ Some b → a ≡ b
+pub was_live : (p : Plan) (t : ℕ) (e : Entry) (h : List Entry) → IsHistory p (e ∷ h) → (x : IsLive t (e ∷ h)) → IsPushOf t x.function x.session x.k h → IsLive t h
+was_live p t e h l x w = live_before p t e h l x w
+
+pub pushed_one : (a b : Pushed) (o : Option Pushed) → o ≡ Some a → o ≡ Some b → a ≡ b
 pushed_one a b o e f = grind arith
 
 session_of_pushed : (p : Plan) (t n c k : ℕ) (h : List Entry) (y : Pushed) → IsHistory p h → IsPushOf t n c k h → pushed_of p t h ≡ Some y → y.session ≡ c
 session_of_pushed p t n c k h y l w e = let r = push_asks_for_its_request p t n c k h l w in ap (λ z. z.session) (pushed_one y _ (pushed_of p t h) e r.2)
 
+-- push t of function n, filled from what commits left that follow these, fits that, edits what the function
+-- was granted, and is filled as before
+abbrev FitsAfter : Plan → ℕ → List Entry → Pushed → ℕ → List Applied → Type 0
+FitsAfter p t h y n next = Fits (view_after next) (filled_after next t y) × Within (edited_paths (filled_after next t y)) (granted n h) × (filled_after next t y ≡ filled_after (committed_of p h) t y)
+
 -- Another push commits: it edits no path that this one's function was granted.
 fits_commit : (p : Plan) (a u t : ℕ) (h : List Entry) (y : Pushed) → IsHistory p h → IsSeen p h → IsDue p h (op.CommitOk a u) → (x : IsLive t h) → u ≢ t → pushed_of p t h ≡ Some y → count_settling x.session (settled_in h (op.CommitOk a u)) (settled_of x.session h) + 1 ≡ x.k
-    → let next = committed_in p h (op.CommitOk a u) (committed_of p h) in Fits (view_after next) (filled_after next t y) × Within (edited_paths (filled_after next t y)) (granted x.function h)
+    → FitsAfter p t h y x.function (committed_in p h (op.CommitOk a u) (committed_of p h))
 fits_commit p a u t h y l s d x e q n =
-    subst (λ z. let next = with_filled (committed_of p h) u z in Fits (view_after next) (filled_after next t y) × Within (edited_paths (filled_after next t y)) (granted x.function h)) (sym c.is)
-    (subst (λ z. Fits (view_after (A ∷ done)) z × Within (edited_paths z) (granted x.function h)) (sym (refilled done (A ∷ done) t y f)) (f, i.1))
+    subst (λ z. FitsAfter p t h y x.function (with_filled (committed_of p h) u z)) (sym c.is)
+    (subst (λ z. Fits (view_after (A ∷ done)) z × Within (edited_paths z) (granted x.function h) × (z ≡ B)) (sym (refilled done (A ∷ done) t y f)) (f, i.1, refl))
   where
     done : List Applied
     done = committed_of p h
@@ -120,19 +128,23 @@ fits_commit p a u t h y l s d x e q n =
 
 -- What fits stays so, while it is live.
 fits_on : (p : Plan) (t : ℕ) (h : List Entry) (y : Pushed) (o : Op) → IsHistory p h → IsSeen p h → IsDue p h o → (x : IsLive t h) → commits t o ≡ false → pushed_of p t h ≡ Some y → count_settling x.session (settled_in h o) (settled_of x.session h) + 1 ≡ x.k
-    → let next = committed_in p h o (committed_of p h) in Fits (view_after next) (filled_after next t y) × Within (edited_paths (filled_after next t y)) (granted x.function h)
+    → FitsAfter p t h y x.function (committed_in p h o (committed_of p h))
 fits_on p t h y (op.CommitOk a u) l s d x e q n = fits_commit p a u t h y l s d x (grind (arith, nat_tests)) q n
-fits_on p t h y o l s d x e q n = s.pushes t x y q
+fits_on p t h y o l s d x e q n = let i = s.pushes t x y q in (i.0, i.1, refl)
 
 not_here : (a b : Bool) → (a || b) ≡ false → a ≡ false
 not_here true b e = e
 not_here false b e = refl
 
-old_fits : (p : Plan) (t : ℕ) (e : Entry) (h : List Entry) (y : Pushed) → IsHistory p (e ∷ h) → IsSeen p h → (x : IsLive t (e ∷ h)) → pushed_of p t (e ∷ h) ≡ Some y → IsPushOf t x.function x.session x.k h → FitsLocked p t x.function (e ∷ h) y
-old_fits p t e h y l s x q w =
-    let b = live_before p t e h l x w in
-    let f = fits_on p t h y e.op l.0 s (due p e h l) b (not_here (commits t e.op) (is_committed t h) x.uncommitted) (sym (pushed_never_changes p t x.function x.session x.k h (e ∷ []) l w) ∙ q) x.next in
-    (f.0, λ g v. granted_stays x.function g e h (f.1 g v))
+old_fits : (p : Plan) (t : ℕ) (e : Entry) (h : List Entry) (y : Pushed) → IsHistory p (e ∷ h) → IsSeen p h → (x : IsLive t (e ∷ h)) → pushed_of p t h ≡ Some y → IsPushOf t x.function x.session x.k h → FitsAfter p t h y x.function (committed_of p (e ∷ h))
+old_fits p t e h y l s x q w = fits_on p t h y e.op l.0 s (due p e h l) (live_before p t e h l x w) (not_here (commits t e.op) (is_committed t h) x.uncommitted) q x.next
+
+still_fits : (p : Plan) (t : ℕ) (e : Entry) (h : List Entry) (y : Pushed) → IsHistory p (e ∷ h) → IsSeen p h → (x : IsLive t (e ∷ h)) → pushed_of p t (e ∷ h) ≡ Some y → IsPushOf t x.function x.session x.k h → FitsLocked p t x.function (e ∷ h) y
+still_fits p t e h y l s x q w = let f = old_fits p t e h y l s x (sym (pushed_never_changes p t x.function x.session x.k h (e ∷ []) l w) ∙ q) w in (f.0, λ g v. granted_stays x.function g e h (f.1 g v))
+
+-- a live push is filled as it was before
+pub filled_on : (p : Plan) (t : ℕ) (e : Entry) (h : List Entry) (y : Pushed) → IsHistory p (e ∷ h) → IsSeen p h → (x : IsLive t (e ∷ h)) → pushed_of p t h ≡ Some y → IsPushOf t x.function x.session x.k h → filled_after (committed_of p (e ∷ h)) t y ≡ filled_after (committed_of p h) t y
+filled_on p t e h y l s x q w = (old_fits p t e h y l s x q w).2
 
 -- A new push. -----------------------------------------------------------------------------------------
 
@@ -155,8 +167,14 @@ lists_owned p h f (request.Delete path version) i q w s = tt
 lists_owned p h f (request.Close evict) i q w s = i (request.Close evict) q refl w s
 lists_owned p h f (request.Multi xs) i q w s = tt
 
+-- What a follower at work has seen of the paths that it holds.
+pub holder_agrees : (p : Plan) (n : ℕ) (h : List Entry) (f : Follower) → IsHistory p h → IsSeen p h → place_of p n h ≡ Following f → progress f.stage ≡ Works → ((q : PathNames) → has_path q (granted n h) ≡ true → IsOwn n (last_grant q h)) → (q : PathNames) → has_path q (granted n h) ≡ true → node_in f.granted q ≡ (stored_view p h).node q
+holder_agrees p n h f l s b w o q v =
+    let e = records_are_of_its_grants p n h f l b in
+    seen_agrees p n h f.granted (subst (OnStanding (Sees p n h)) b (s.views n) w) (λ x u. o x (ap (has_path x) (sym e) ∙ u)) q (ap (has_path q) e ∙ v)
+
 -- A follower that is about to push, whose locks are its own.
-pusher_fits : (p : Plan) (n t moment : ℕ) (h : List Entry) (f : Follower) (r : Request) → IsHistory p h → BeatsClients h → IsSeen p h → place_of p n h ≡ Following f → f.stage ≡ follower.Push → request_of p f.session f.k h ≡ Some r → settled_of f.session h + 1 ≡ f.k
+pub pusher_fits : (p : Plan) (n t moment : ℕ) (h : List Entry) (f : Follower) (r : Request) → IsHistory p h → BeatsClients h → IsSeen p h → place_of p n h ≡ Following f → f.stage ≡ follower.Push → request_of p f.session f.k h ≡ Some r → settled_of f.session h + 1 ≡ f.k
     → ((q : PathNames) → has_path q (granted n h) ≡ true → IsOwn n (last_grant q h)) → FitsLocked p t n h (record { session = f.session; k = f.k; moment = moment; request = r })
 pusher_fits p n t moment h f r l c s b e q z o = (w.0, λ g v. ap (has_path g) (sym locked) ∙ w.1 g v)
   where
@@ -172,18 +190,12 @@ pusher_fits p n t moment h f r l c s b e q z o = (w.0, λ g v. ap (has_path g) (
     locked : lock_paths (view_of f.granted) f.owned r ≡ granted n h
     locked = i.0.1 ∙ (ap (λ zs. paths_of f.granted ++ zs) (none_left i.0.0 (sym (left_over f.granted (lock_paths (view_of f.granted) f.owned r) i.0.0 i.0.1) ∙ i.1.0)) ∙ (append-nil (paths_of f.granted) ∙ records_are_of_its_grants p n h f l b))
 
-    own : (x : PathNames) → has_path x (paths_of f.granted) ≡ true → IsOwn n (last_grant x h)
-    own x v = o x (ap (has_path x) (sym (records_are_of_its_grants p n h f l b)) ∙ v)
-
-    agree : (x : PathNames) → has_path x (lock_paths (view_of f.granted) f.owned r) ≡ true → node_in f.granted x ≡ (stored_view p h).node x
-    agree x v = seen_agrees p n h f.granted (subst (OnStanding (Sees p n h)) b (s.views n) works) own x (ap (has_path x) (records_are_of_its_grants p n h f l b ∙ sym locked) ∙ v)
-
     w : Fits (stored_view p h) (filled_after (committed_of p h) t (record { session = f.session; k = f.k; moment = moment; request = r })) × Within (edited_paths (filled_after (committed_of p h) t (record { session = f.session; k = f.k; moment = moment; request = r }))) (lock_paths (view_of f.granted) f.owned r)
     w = locked_fits (view_of f.granted) f.owned (committed_of p h) t (record { session = f.session; k = f.k; moment = moment; request = r })
         (follows_a_client p n f.session f.k h l c (follower_task p n h f l b))
         i.1.1
         (sym (at_work_is_open p n h f l b works z))
-        agree
+        (λ x v. holder_agrees p n h f l s b works o x (ap (has_path x) (sym locked) ∙ v))
         (lists_owned p h f r (subst (OnStanding (Lists p h)) b (s.lists n)) q locks z)
 
 same_task : (a b c k : ℕ) → Some (Follows a b) ≡ Some (Follows c k) → (a ≡ c) × (b ≡ k)
@@ -207,7 +219,7 @@ new_fits p t n c k e h y l b s g x z o q =
 pushes_step : (p : Plan) (t : ℕ) (e : Entry) (h : List Entry) (y : Pushed) (o : Option Push) → push_here t (pushed_in (clock_of h) e.op) ≡ o → IsHistory p (e ∷ h) → BeatsClients h → IsSeen p h → (x : IsLive t (e ∷ h)) → pushed_of p t (e ∷ h) ≡ Some y → FitsLocked p t x.function (e ∷ h) y
 pushes_step p t e h y None b l c s x q =
     let z = push_bound p t h x.is_of.push l.0 (subst (λ o. or_else o (push_of t h) ≡ Some x.is_of.push) b x.is_of.pushed) in
-    old_fits p t e h y l s x q (its_push_before p t x.function x.session x.k e h l z.1 z.2 x.is_of)
+    still_fits p t e h y l s x q (its_push_before p t x.function x.session x.k e h l z.1 z.2 x.is_of)
 pushes_step p t e h y (Some u) b l c s x q =
     let f : u.function ≡ x.function = ap (λ z. z.function) (some_same u x.is_of.push (subst (λ o. or_else o (push_of t h) ≡ Some x.is_of.push) b x.is_of.pushed)) ∙ x.is_of.function in
     new_fits p t x.function x.session x.k e h y l c s (new_push t h e.op u b ∙ ap (λ z. op.Push z t) f) x.is_of x.next x.own q

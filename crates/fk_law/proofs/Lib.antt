@@ -1,3 +1,4 @@
+pub mod Carrying
 pub mod Clients
 pub mod Closing
 pub mod Committing

@@ -99,7 +99,7 @@ pushed_stays : (p : Plan) (t n c k : ℕ) (e : Entry) (h : List Entry) → IsHis
 pushed_stays p t n c k e h l i =
     pushed_is p t n c k (e ∷ h) (record { push = i.push; pushed = push_stays p t e h i.push l i.pushed; function = i.function; task = task_stays p n e h (Follows c k) l i.task }) ∙ ap (pushed_request i.push.moment c k) (request_stays p c k e h (reached p n c k h l.0 i.task).2) ∙ sym (pushed_is p t n c k h i)
 
-its_push_forever : (p : Plan) (t n c k : ℕ) (h more : List Entry) → IsHistory p (more ++ h) → IsPushOf t n c k h → IsPushOf t n c k (more ++ h)
+pub its_push_forever : (p : Plan) (t n c k : ℕ) (h more : List Entry) → IsHistory p (more ++ h) → IsPushOf t n c k h → IsPushOf t n c k (more ++ h)
 its_push_forever p t n c k h [] l i = i
 its_push_forever p t n c k h (e ∷ more) l i = its_push_stays p t n c k e (more ++ h) l (its_push_forever p t n c k h more l.0 i)
 

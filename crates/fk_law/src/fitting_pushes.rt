@@ -1,4 +1,4 @@
-ghost use Rattle.fk_law.specs.Fitting.{CommitsFit, LivePushEditsWhatItLocked, LivePushFits, OnlyTheHolderEdits, PushLocksWhatItEdits, StoredTreeIsShown};
+ghost use Rattle.fk_law.specs.Fitting.{CommitsFit, CommittedAsPushed, FollowerFillsTheSame, LivePushEditsWhatItLocked, LivePushFits, OnlyTheHolderEdits, PushLocksWhatItEdits, StoredTreeIsShown};
 
 /// A law: a live push, filled from what the commits left, fits that.
 pub fn live_push_fits()
@@ -28,4 +28,15 @@ pub fn commits_fit()
 /// A law: the tree after all commits is well formed and shows what their edits show.
 pub fn stored_tree_is_shown()
     ensures { StoredTreeIsShown }
+{}
+
+/// A law: what is filled from the commits for a follower that is about to push fits what the follower has
+/// seen.
+pub fn follower_fills_the_same()
+    ensures { FollowerFillsTheSame }
+{}
+
+/// A law: a push is committed as it would have been at any time since it was pushed.
+pub fn committed_as_pushed()
+    ensures { CommittedAsPushed }
 {}

@@ -27,8 +27,8 @@ pub use commit_order::{
 };
 pub use due_entries::every_entry_is_due;
 pub use fitting_pushes::{
-    commits_fit, live_push_edits_what_it_locked, live_push_fits, only_the_holder_edits,
-    push_locks_what_it_edits, stored_tree_is_shown,
+    commits_fit, committed_as_pushed, follower_fills_the_same, live_push_edits_what_it_locked,
+    live_push_fits, only_the_holder_edits, push_locks_what_it_edits, stored_tree_is_shown,
 };
 pub use follower_views::{
     follower_decides_from_its_views, grants_are_the_first_lock_paths, owned_list_is_complete,
