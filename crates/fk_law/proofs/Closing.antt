@@ -126,7 +126,7 @@ closed_push_step p t n c k e h (Some y) b l i x s =
     some_same : (y z : Push) → Some y ≡ Some z → y ≡ z
     some_same y z e = cc
 
-closed_push : (p : Plan) (t n c k : ℕ) (h : List Entry) → IsHistory p h → IsPushOf t n c k h → settled_of c h + 1 ≡ k → (stored_view p h).closed c ≡ false
+pub closed_push : (p : Plan) (t n c k : ℕ) (h : List Entry) → IsHistory p h → IsPushOf t n c k h → settled_of c h + 1 ≡ k → (stored_view p h).closed c ≡ false
 closed_push p t n c k [] l x s = refl
 closed_push p t n c k (e ∷ h) l x s = closed_push_step p t n c k e h (push_here t (pushed_in (clock_of h) e.op)) refl l (closed_push p t n c k h l.0) x s
 

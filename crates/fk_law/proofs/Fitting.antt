@@ -79,7 +79,7 @@ was_live p t e h l x w = live_before p t e h l x w
 pub pushed_one : (a b : Pushed) (o : Option Pushed) → o ≡ Some a → o ≡ Some b → a ≡ b
 pushed_one a b o e f = grind arith
 
-session_of_pushed : (p : Plan) (t n c k : ℕ) (h : List Entry) (y : Pushed) → IsHistory p h → IsPushOf t n c k h → pushed_of p t h ≡ Some y → y.session ≡ c
+pub session_of_pushed : (p : Plan) (t n c k : ℕ) (h : List Entry) (y : Pushed) → IsHistory p h → IsPushOf t n c k h → pushed_of p t h ≡ Some y → y.session ≡ c
 session_of_pushed p t n c k h y l w e = let r = push_asks_for_its_request p t n c k h l w in ap (λ z. z.session) (pushed_one y _ (pushed_of p t h) e r.2)
 
 -- push t of function n, filled from what commits left that follow these, fits that, edits what the function

@@ -1,5 +1,7 @@
+pub mod Beyond
 pub mod Carrying
 pub mod Clients
+pub mod Closes
 pub mod Closing
 pub mod Committing
 pub mod Deciding
@@ -17,6 +19,7 @@ pub mod Locking
 pub mod Losing
 pub mod Losses
 pub mod Moving
+pub mod Numbering
 pub mod Numbers
 pub mod Outcomes
 pub mod Passing

@@ -140,7 +140,7 @@ pushed_before p s h (op.CommitOk a u) l d i =
 pushed_before p s h o l d i = grind (arith, committed_low p s h l)
 
 -- push t is uncommitted and its request is the session's next, push s is a committed one of the session
-abbrev BeforeInSession : ℕ → ℕ → ℕ → ℕ → ℕ → ℕ → ℕ → List Entry → Type 0
+abbrev pub BeforeInSession : ℕ → ℕ → ℕ → ℕ → ℕ → ℕ → ℕ → List Entry → Type 0
 BeforeInSession t n c k s m j h = IsPushOf t n c k h → IsPushOf s m c j h → is_committed s h ≡ true → settled_of c h + 1 ≡ k → s < t
 
 session_old : (p : Plan) (t n c k s m j : ℕ) (e : Entry) (h : List Entry) (b : Bool) → commits s e.op ≡ b → IsHistory p (e ∷ h) → BeforeInSession t n c k s m j h → IsPushOf t n c k h → IsPushOf s m c j h → IsPushOf s m c j (e ∷ h) → (b || is_committed s h) ≡ true → settled_of c (e ∷ h) + 1 ≡ k → s < t
@@ -169,7 +169,7 @@ session_step p t n c k s m j e h l i x z v w = by_old (nat_le t (pushes_of h)) r
         session_old p t n c k s m j e h (commits s e.op) refl l i a y z v w
     by_old false f = omega (arith, above t (pushes_of h) f, low)
 
-newest_in_a_session : (p : Plan) (t n c k s m j : ℕ) (h : List Entry) → IsHistory p h → BeforeInSession t n c k s m j h
+pub newest_in_a_session : (p : Plan) (t n c k s m j : ℕ) (h : List Entry) → IsHistory p h → BeforeInSession t n c k s m j h
 newest_in_a_session p t n c k s m j [] l = λ x y v w. absurd (false≢true v)
 newest_in_a_session p t n c k s m j (e ∷ h) l = session_step p t n c k s m j e h l (newest_in_a_session p t n c k s m j h l.0)
 

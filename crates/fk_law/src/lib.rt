@@ -2,6 +2,7 @@
 #![tactic(auto)]
 
 mod closed_sessions;
+mod commit_numbers;
 mod commit_order;
 mod due_entries;
 mod fitting_pushes;
@@ -21,6 +22,10 @@ mod settlings;
 mod shown_losses;
 
 pub use closed_sessions::{at_work_is_open, closed_has_no_live_push, no_commit_after_close};
+pub use commit_numbers::{
+    close_lists_all, closed_session_owns_nothing, commit_fits_at_its_number, commits_rise,
+    later_numbers_leave, live_push_is_newest,
+};
 pub use commit_order::{
     commits_in_order_on_a_path, commits_rise_in_a_session, commits_rise_on_a_path,
     committer_holds_its_paths, one_of_two_commits,
