@@ -19,6 +19,7 @@ pub mod Locking
 pub mod Losing
 pub mod Losses
 pub mod Moving
+pub mod Numbered
 pub mod Numbering
 pub mod Numbers
 pub mod Outcomes

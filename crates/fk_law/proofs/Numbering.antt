@@ -94,11 +94,11 @@ AllFitBefore done [] = Unit {0}
 AllFitBefore done (a ∷ rest) = FitsBefore done a × AllFitBefore done rest
 
 -- no commit is beyond the last one of a path that it edits, or of its session
-record IsKnown (done : List Applied) (a : Applied) : Type 0 where
+pub record IsKnown (done : List Applied) (a : Applied) : Type 0 where
   pub paths : (q : PathNames) → has_path q (edited_paths a) ≡ true → a.tx ≤ last_editor q done
   pub session : a.tx ≤ last_in a.session done
 
-abbrev AllKnown : List Applied → List Applied → Type 0
+abbrev pub AllKnown : List Applied → List Applied → Type 0
 AllKnown done [] = Unit {0}
 AllKnown done (a ∷ rest) = IsKnown done a × AllKnown done rest
 
@@ -120,7 +120,7 @@ all_known_on done b (a ∷ rest) i k = (known_on done b a i k.0, all_known_on do
 known_new : (done : List Applied) (b : Applied) → IsKnown (b ∷ done) b
 known_new done b = record { paths = λ q e. rw e (omega arith); session = (let s : nat_eq b.session b.session ≡ true = grind (arith, nat_tests) in rw s (omega arith)) }
 
-all_known : (done : List Applied) → AllNewest done → AllKnown done done
+pub all_known : (done : List Applied) → AllNewest done → AllKnown done done
 all_known [] i = tt
 all_known (b ∷ done) i = (known_new done b, all_known_on done b done i.0 (all_known done i.1))
 

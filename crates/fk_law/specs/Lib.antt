@@ -8,6 +8,7 @@ pub mod LeaderLane
 pub mod Locking
 pub mod Losing
 pub mod Losses
+pub mod Numbered
 pub mod Numbering
 pub mod Progress
 pub mod Pushes

@@ -14,6 +14,7 @@ mod live_pushes;
 mod locks;
 mod longer_histories;
 mod lost_locks;
+mod numbered_commits;
 mod pushes;
 mod request_outcomes;
 mod sent_requests;
@@ -62,6 +63,7 @@ pub use lost_locks::{
     dead_push_never_commits, dead_stays_dead, lock_miss_is_dead, overtaken_push_never_commits,
     settled_miss_is_over,
 };
+pub use numbered_commits::{numbered_fit, numbered_leave_the_same, numbered_tree_is_shown};
 pub use pushes::{
     committer_commits_a_push, each_number_is_a_push, one_push_for_each_function,
     push_is_of_a_request, push_never_changes, pushes_are_numbered,
