@@ -24,6 +24,7 @@ pub mod Numbering
 pub mod Numbers
 pub mod Outcomes
 pub mod Passing
+pub mod Printing
 pub mod Pushing
 pub mod Recording
 pub mod Rising

@@ -136,7 +136,7 @@ pub committed_is_filled : CommittedIsFilled
 committed_is_filled p t [] l c = absurd (false≢true c)
 committed_is_filled p t (e ∷ h) l c = filled_step p t e h (commits t e.op) refl l (committed_is_filled p t h l.0) c
 
-tx_is : (t : ℕ) (done : List Applied) (a : Applied) → applied_as t done ≡ Some a → a.tx ≡ t
+pub tx_is : (t : ℕ) (done : List Applied) (a : Applied) → applied_as t done ≡ Some a → a.tx ≡ t
 tx_is t [] a e = absurd (grind arith)
 tx_is t (b ∷ done) a e = grind (arith, nat_tests, tx_is t done a)
 

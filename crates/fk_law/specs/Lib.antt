@@ -11,6 +11,7 @@ pub mod Losses
 pub mod Numbered
 pub mod Numbering
 pub mod Progress
+pub mod Publishing
 pub mod Pushes
 pub mod Requests
 pub mod Rising
