@@ -25,6 +25,7 @@ pub mod Numbers
 pub mod Outcomes
 pub mod Passing
 pub mod Printing
+pub mod Publishing
 pub mod Pushing
 pub mod Recording
 pub mod Rising

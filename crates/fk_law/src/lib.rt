@@ -65,7 +65,7 @@ pub use lost_locks::{
     settled_miss_is_over,
 };
 pub use numbered_commits::{numbered_fit, numbered_leave_the_same, numbered_tree_is_shown};
-pub use publications::txs_are_the_commits;
+pub use publications::{each_request_once, published_tree_is_shown, txs_are_the_commits};
 pub use pushes::{
     committer_commits_a_push, each_number_is_a_push, one_push_for_each_function,
     push_is_of_a_request, push_never_changes, pushes_are_numbered,
