@@ -1,6 +1,6 @@
 -- A live push is beyond what was committed for its session and on its paths.
 use Rattle.std.specs.Prelude.{nat_eq}
-use Rattle.std.proofs.Common.{◌≡◌, ℕ, ◌<◌, ◌≤◌, Bool, true, false, cond, List, [], ◌∷◌, refl, sym, ◌∙◌, ap, subst, arith, Some}
+use Rattle.std.proofs.Common.{◌≡◌, ℕ, ◌<◌, ◌≤◌, Bool, true, false, cond, List, [], ◌∷◌, refl, sym, ◌∙◌, ap, subst, arith}
 use Rattle.std.proofs.lemmas.Bool.Decides.{nat_tests}
 use Rattle.fk_base.specs.Path.{PathNames}
 use Rattle.fk_tree.specs.Sorted.{has_path}
@@ -10,7 +10,7 @@ use Rattle.fk_print.specs.declared.op.Op.{Op}
 use Rattle.fk_print.specs.declared.op.Op.TheVariants as op
 use Rattle.fk_spec.specs.Plan.{Plan}
 use Rattle.fk_spec.specs.Locks.{granted}
-use Rattle.fk_spec.specs.Settling.{is_committed, session_of_push, last_of_session, last_for}
+use Rattle.fk_spec.specs.Settling.{is_committed, last_of_session, last_for}
 use Rattle.fk_spec.specs.Stored.{committed_of, committed_in, with_filled, filled_after, last_edit, last_editor}
 use Rattle.fk_spec.specs.Next.{IsHistory}
 use Rattle.fk_law.specs.Due.{IsDue, IsPushOf}

@@ -1,6 +1,6 @@
 -- What a push carries to its commit.
 use Rattle.std.specs.Prelude.{◌==◌}
-use Rattle.std.proofs.Common.{◌≡◌, ◌≢◌, ℕ, ◌+◌, ◌≤◌, ◌++◌, Bool, true, false, ◌||◌, List, [], ◌∷◌, refl, sym, ◌∙◌, ap, subst, arith, Option, Some, None}
+use Rattle.std.proofs.Common.{◌≡◌, ◌≢◌, ℕ, ◌++◌, Bool, true, false, ◌||◌, List, [], ◌∷◌, refl, sym, ◌∙◌, ap, subst, arith, Some}
 use Rattle.std.proofs.lemmas.Bool.{false≢true}
 use Rattle.std.proofs.lemmas.Bool.Decides.{nat_tests}
 use Rattle.fk_base.specs.Path.{PathNames, same_path}
@@ -16,11 +16,10 @@ use Rattle.fk_print.specs.declared.op.Op.TheVariants as op
 use Rattle.fk_law_tree.specs.Locking.{ListsOwned}
 use Rattle.fk_law_tree.specs.Owners.{is_owned}
 use Rattle.fk_law_tree.proofs.Holding.{fits_by_its_edits}
-use Rattle.fk_law_tree.proofs.Members.{flipped, or_left, or_right}
+use Rattle.fk_law_tree.proofs.Members.{flipped}
 use Rattle.fk_spec.specs.Plan.{Plan}
 use Rattle.fk_spec.specs.Start.{Pushed, pushed_of}
 use Rattle.fk_spec.specs.Locks.{granted}
-use Rattle.fk_spec.specs.Settling.{is_committed, commits}
 use Rattle.fk_spec.specs.Stored.{committed_of, committed_in, committed_as, applied_as, with_filled, filled_after, gone_after, stored_view}
 use Rattle.fk_spec.specs.Follower.{Granted, node_in, view_of}
 use Rattle.fk_spec.specs.Next.{IsHistory}
@@ -32,7 +31,6 @@ use Rattle.fk_law.specs.Seeing.{paths_of}
 use Rattle.fk_law.specs.Sessions.{BeatsClients}
 use Rattle.fk_law.proofs.Due.{due}
 use Rattle.fk_law.proofs.Closing.{at_work_is_open}
-use Rattle.fk_law.proofs.Committing.{its_push_stays, its_push_is_one}
 use Rattle.fk_law.proofs.Sending.{committed_other, was_committed, pushed_never_changes, its_push_forever}
 use Rattle.fk_law.proofs.Rising.{its_push_before}
 use Rattle.fk_law.proofs.Pushing.{push_bound}
@@ -40,7 +38,7 @@ use Rattle.fk_law.proofs.Clients.{follows_a_client}
 use Rattle.fk_law.proofs.Starting.{follower_task}
 use Rattle.fk_law.proofs.Recording.{records_are_of_its_grants}
 use Rattle.fk_law.proofs.Filling.{owned_has, not_none}
-use Rattle.fk_law.proofs.Leaving.{IsSeen, FitsLocked, commit_is}
+use Rattle.fk_law.proofs.Leaving.{FitsLocked, commit_is}
 use Rattle.fk_law.proofs.Fitting.{seen, holder_agrees, pusher_fits, was_live, filled_on, pushed_one}
 use Rattle.fk_law.proofs.Editing.{one_applied}
 

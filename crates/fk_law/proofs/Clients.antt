@@ -1,12 +1,12 @@
 -- Sessions have the numbers of clients.
 use Rattle.std.specs.Prelude.{nat_eq}
-use Rattle.std.proofs.Common.{◌≡◌, ℕ, zero, suc, ◌≤◌, Bool, true, false, List, [], ◌∷◌, refl, sym, ◌∙◌, ap, subst, arith, Option, Some, None}
+use Rattle.std.proofs.Common.{◌≡◌, ℕ, zero, suc, ◌≤◌, Bool, true, false, List, [], ◌∷◌, refl, ap, arith, Option, Some, None}
 use Rattle.std.proofs.lemmas.Bool.Decides.{nat_tests}
 use Rattle.fk_print.specs.declared.entry.Entry.{Entry}
 use Rattle.fk_print.specs.declared.op.Op.{Op}
 use Rattle.fk_print.specs.declared.op.Op.TheVariants as op
 use Rattle.fk_spec.specs.Plan.{Plan, asked}
-use Rattle.fk_spec.specs.Start.{Task, Follows, Probes, task_of, task_here, started_in, or_else, sends_of, sent_in, count_sent, written}
+use Rattle.fk_spec.specs.Start.{Task, Probes, task_of, task_here, started_in, or_else, sends_of, sent_in, count_sent, written}
 use Rattle.fk_spec.specs.Next.{IsHistory}
 use Rattle.fk_law.specs.Due.{IsDue}
 use Rattle.fk_law.specs.Sessions.{BeatsAClient, BeatsClients, FollowsAClient}

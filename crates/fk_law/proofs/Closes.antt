@@ -17,8 +17,8 @@ use Rattle.fk_law_tree.specs.Owners.{is_owned}
 use Rattle.fk_law_tree.proofs.Owning.{keeps_foreign_owners, close_leaves_none}
 use Rattle.fk_spec.specs.Plan.{Plan}
 use Rattle.fk_spec.specs.Start.{Push, Pushed, pushed_of, push_of, push_here, pushed_in, clock_of, pushes_of, count_push, or_else}
-use Rattle.fk_spec.specs.Settling.{settled_in, settled_of, count_settling, is_committed, commits, last_of_session}
-use Rattle.fk_spec.specs.Stored.{committed_of, committed_in, with_filled, filled_after, gone_after, stored_view, up_to, last_edit}
+use Rattle.fk_spec.specs.Settling.{settled_in, settled_of, count_settling}
+use Rattle.fk_spec.specs.Stored.{committed_of, committed_in, with_filled, filled_after, gone_after, stored_view, up_to}
 use Rattle.fk_spec.specs.Next.{IsHistory}
 use Rattle.fk_law.specs.Due.{IsDue, IsPushOf}
 use Rattle.fk_law.specs.Losing.{IsLive}
@@ -32,7 +32,7 @@ use Rattle.fk_law.proofs.Rising.{its_push_before}
 use Rattle.fk_law.proofs.Sending.{pushed_never_changes}
 use Rattle.fk_law.proofs.Clients.{follows_a_client}
 use Rattle.fk_law.proofs.Filling.{owned_has, not_none}
-use Rattle.fk_law.proofs.Leaving.{IsSeen, IsCommit, commit_is, other_session}
+use Rattle.fk_law.proofs.Leaving.{IsCommit, commit_is, other_session}
 use Rattle.fk_law.proofs.Fitting.{seen, was_live, filled_on, session_of_pushed}
 use Rattle.fk_law.proofs.Beyond.{last_in_is, commit_is_newest, commits_rise}
 use Rattle.fk_law.proofs.Numbering.{node_counts, closed_apart, closed_counts, AllAtMost, more_at_most, all_counted, AllFitBefore, one_fits_more, fits_before}

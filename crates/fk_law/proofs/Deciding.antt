@@ -1,12 +1,11 @@
 -- How a follower locks, and what it decides.
-use Rattle.std.proofs.Common.{◌≡◌, ◌≢◌, ℕ, suc, ◌+◌, ◌≤◌, ◌++◌, ◌⊎◌, inl, inr, Bool, true, false, List, [], ◌∷◌, length, append_assoc, refl, sym, ◌∙◌, ap, subst, arith, Option, Some, None}
+use Rattle.std.proofs.Common.{◌≡◌, ℕ, suc, ◌+◌, ◌≤◌, ◌++◌, ◌⊎◌, inl, inr, true, false, List, [], ◌∷◌, length, append_assoc, refl, sym, ◌∙◌, ap, subst, arith, Option, Some, None}
 use Rattle.std.proofs.lemmas.Bool.{cond_both}
 use Rattle.std.proofs.lemmas.Bool.Decides.{nat_tests}
 use Rattle.fk_base.specs.Path.{PathNames, parent}
 use Rattle.fk_tree.specs.Check.{Refusal, check}
 use Rattle.fk_tree.specs.Edit.{closes}
 use Rattle.fk_tree.specs.Locks.{numbered_path, numbered_paths, lock_paths}
-use Rattle.fk_tree.specs.declared.node.Node.{Node}
 use Rattle.fk_tree.specs.declared.request.Request.{Request}
 use Rattle.fk_tree.specs.declared.request.Request.TheVariants as request
 use Rattle.fk_tree.proofs.Order.{same_path_self}
@@ -15,7 +14,6 @@ use Rattle.fk_print.specs.declared.op.Op.{Op}
 use Rattle.fk_print.specs.declared.op.Op.TheVariants as op
 use Rattle.fk_spec.specs.Plan.{Plan, item_after}
 use Rattle.fk_spec.specs.Start.{seen_with, seen_from, request_of, sends_of}
-use Rattle.fk_spec.specs.Locks.{granted, granted_in}
 use Rattle.fk_spec.specs.Settling.{settled_in, settled_of, last_of_session}
 use Rattle.fk_spec.specs.Stored.{committed_of, owned_after}
 use Rattle.fk_spec.specs.Follower.{Follower, Granted, begin, node_in, view_of, refusal_number, next_stage, next_with, to_lock, to_begin, with_granted}

@@ -1,9 +1,7 @@
 -- What commits edit.
 use Rattle.std.specs.Prelude.{◌==◌}
-use Rattle.std.proofs.Common.{◌≡◌, ℕ, ◌≤◌, Bool, true, false, List, [], ◌∷◌, refl, sym, ◌∙◌, ap, subst, arith, Option, Some, None}
+use Rattle.std.proofs.Common.{◌≡◌, ℕ, ◌≤◌, Bool, true, false, List, [], ◌∷◌, refl, sym, ◌∙◌, ap, subst, arith, Some}
 use Rattle.std.proofs.lemmas.Bool.Decides.{nat_tests}
-use Rattle.fk_base.specs.Path.{PathNames}
-use Rattle.fk_tree.specs.Sorted.{has_path}
 use Rattle.fk_tree.specs.Touch.{edited_paths}
 use Rattle.fk_tree.specs.declared.applied.Applied.{Applied}
 use Rattle.fk_print.specs.declared.entry.Entry.{Entry}
@@ -15,10 +13,7 @@ use Rattle.fk_law_tree.proofs.Growing.{views_are_trees}
 use Rattle.fk_spec.specs.Plan.{Plan}
 use Rattle.fk_spec.specs.Start.{pushes_of}
 use Rattle.fk_spec.specs.Locks.{last_grant, granted}
-use Rattle.fk_spec.specs.Settling.{commits}
 use Rattle.fk_spec.specs.Stored.{committed_of, committed_in, committed_as, applied_as, with_filled, filled_after}
-use Rattle.fk_spec.specs.Follower.{Follower}
-use Rattle.fk_spec.specs.Function.{Following, place_of}
 use Rattle.fk_spec.specs.Next.{IsHistory}
 use Rattle.fk_law.specs.Due.{IsDue, IsPushOf}
 use Rattle.fk_law.specs.Fitting.{LivePushFits, LivePushEditsWhatItLocked, PushLocksWhatItEdits, OnlyTheHolderEdits, CommitsFit, StoredTreeIsShown}
@@ -32,7 +27,7 @@ use Rattle.fk_law.proofs.Committing.{its_push_is_one}
 use Rattle.fk_law.proofs.Rising.{its_push_before, committed_low}
 use Rattle.fk_law.proofs.Losing.{granted_stays}
 use Rattle.fk_law.proofs.Sending.{committed_other, was_committed}
-use Rattle.fk_law.proofs.Leaving.{FitsLocked, Sees, Lists, IsSeen, IsCommit, commit_is}
+use Rattle.fk_law.proofs.Leaving.{Sees, Lists, commit_is}
 use Rattle.fk_law.proofs.Fitting.{seen}
 
 pub view_is_current : ViewIsCurrentWhileTheLockIsOwn

@@ -1,6 +1,6 @@
 -- What is filled from the commits, against what they left.
 use Rattle.std.specs.Prelude.{◌&&◌}
-use Rattle.std.proofs.Common.{◌≡◌, ◌≢◌, ℕ, ◌<◌, Bool, true, false, cond, ◌||◌, List, [], ◌∷◌, ◌++◌, refl, sym, ◌∙◌, ap, subst, arith, Option, Some, None}
+use Rattle.std.proofs.Common.{◌≡◌, ◌≢◌, ℕ, ◌<◌, Bool, true, false, cond, ◌||◌, List, [], ◌∷◌, refl, sym, ◌∙◌, ap, arith, Option, Some, None}
 use Rattle.std.specs.Ordering.{is_lt}
 use Rattle.std.proofs.lemmas.Bool.{false≢true}
 use Rattle.fk_base.specs.Path.{PathNames, path_cmp, same_path}
@@ -26,7 +26,7 @@ use Rattle.fk_law_tree.proofs.Lists.{ordered_has, ordered_rises}
 use Rattle.fk_law_tree.proofs.Matching.{one_fits}
 use Rattle.fk_law_tree.proofs.Members.{has_append}
 use Rattle.fk_law_tree.proofs.Passing.{passed_open, placed_none, CreatePasses, passed_create}
-use Rattle.fk_law_tree.proofs.Reading.{check_reads, agree_left}
+use Rattle.fk_law_tree.proofs.Reading.{check_reads}
 use Rattle.fk_spec.specs.Start.{Pushed}
 use Rattle.fk_spec.specs.Stored.{is_owned_by, owned_among, all_edited, owned_after, gone_after, filled_after}
 

@@ -1,6 +1,6 @@
 -- Live pushes fit what the commits left, and edit what their functions locked.
-use Rattle.std.specs.Prelude.{◌==◌, ◌||◌}
-use Rattle.std.proofs.Common.{◌≡◌, ◌≢◌, ℕ, ◌+◌, ◌≤◌, ◌++◌, Bool, true, false, List, [], ◌∷◌, refl, sym, ◌∙◌, ap, subst, arith, Option, Some, None, append-nil}
+use Rattle.std.specs.Prelude.{◌||◌}
+use Rattle.std.proofs.Common.{◌≡◌, ◌≢◌, ℕ, ◌+◌, ◌++◌, Bool, true, false, List, [], ◌∷◌, refl, sym, ◌∙◌, ap, subst, arith, Option, Some, None, append-nil}
 use Rattle.std.proofs.lemmas.Bool.{false≢true}
 use Rattle.std.proofs.lemmas.Bool.Decides.{nat_tests}
 use Rattle.fk_base.specs.Path.{PathNames, same_path}
@@ -17,10 +17,9 @@ use Rattle.fk_print.specs.declared.op.Op.{Op}
 use Rattle.fk_print.specs.declared.op.Op.TheVariants as op
 use Rattle.fk_law_tree.specs.Fitting.{Fits}
 use Rattle.fk_law_tree.specs.Locking.{Within, ListsOwned}
-use Rattle.fk_law_tree.specs.Owners.{is_owned}
 use Rattle.fk_law_tree.proofs.Parting.{fits_after_others}
 use Rattle.fk_spec.specs.Plan.{Plan}
-use Rattle.fk_spec.specs.Start.{Follows, Push, Pushed, clock_of, task_of, push_of, push_here, pushed_in, pushes_of, pushed_of, or_else, request_of, seen_with}
+use Rattle.fk_spec.specs.Start.{Follows, Push, Pushed, clock_of, task_of, push_of, push_here, pushed_in, pushed_of, or_else, request_of, seen_with}
 use Rattle.fk_spec.specs.Locks.{is_push_of, last_grant, grant_in, granted}
 use Rattle.fk_spec.specs.Settling.{settled_in, settled_of, count_settling, is_committed, commits}
 use Rattle.fk_spec.specs.Stored.{committed_of, committed_in, with_filled, filled_after, stored_view}
@@ -43,7 +42,7 @@ use Rattle.fk_law.proofs.Rising.{its_push_before, own_same}
 use Rattle.fk_law.proofs.Losing.{granted_stays, no_more_locks}
 use Rattle.fk_law.proofs.Sending.{push_asks_for_its_request, pushed_never_changes, request_stays}
 use Rattle.fk_law.proofs.Clients.{follows_a_client}
-use Rattle.fk_law.proofs.Deciding.{StandsSo, InOrder, stands_at, left_over, none_left}
+use Rattle.fk_law.proofs.Deciding.{StandsSo, stands_at, left_over, none_left}
 use Rattle.fk_law.proofs.Recording.{records_are_of_its_grants}
 use Rattle.fk_law.proofs.Filling.{locked_fits, refilled}
 use Rattle.fk_law.proofs.Standing.{OnStanding}

@@ -1,7 +1,5 @@
 -- What a commit leaves alone.
-use Rattle.std.specs.Prelude.{◌==◌}
-use Rattle.std.proofs.Common.{◌≡◌, ◌≢◌, ℕ, ◌+◌, ◌≤◌, Bool, true, false, cond, List, [], ◌∷◌, refl, sym, ◌∙◌, ap, subst, arith, Option, Some, None}
-use Rattle.std.proofs.lemmas.Bool.{false≢true}
+use Rattle.std.proofs.Common.{◌≡◌, ◌≢◌, ℕ, ◌+◌, ◌≤◌, true, false, cond, List, ◌∷◌, refl, sym, ◌∙◌, ap, subst, arith, Some}
 use Rattle.std.proofs.lemmas.Bool.Decides.{nat_tests}
 use Rattle.fk_base.specs.Path.{PathNames}
 use Rattle.fk_tree.specs.Edit.{closes, view_after}
@@ -31,7 +29,7 @@ use Rattle.fk_law.specs.Losing.{IsOwn, IsLive}
 use Rattle.fk_law.specs.Progress.{Works, progress}
 use Rattle.fk_law.specs.Seeing.{AreCurrent, Locks}
 use Rattle.fk_law.proofs.Standing.{OnStanding}
-use Rattle.fk_law.proofs.Settled.{commit_of, session_of_its_push}
+use Rattle.fk_law.proofs.Settled.{session_of_its_push}
 use Rattle.fk_law.proofs.Living.{committer_is_live}
 use Rattle.fk_law.proofs.Sending.{push_asks_for_its_request}
 use Rattle.fk_law.proofs.Rising.{own_same}

@@ -1,6 +1,6 @@
 -- The transaction lines are the commits up to the mark.
-use Rattle.std.specs.Prelude.{◌==◌, ◌||◌, nat_eq}
-use Rattle.std.proofs.Common.{◌≡◌, ◌≢◌, ℕ, zero, suc, ◌+◌, ◌<◌, ◌≤◌, Bool, true, false, cond, List, [], ◌∷◌, ◌++◌, ◌⊎◌, inl, inr, max, refl, sym, ◌∙◌, ap, subst, arith, Option, Some, None}
+use Rattle.std.specs.Prelude.{◌||◌, nat_eq}
+use Rattle.std.proofs.Common.{◌≡◌, ◌≢◌, ℕ, zero, suc, ◌+◌, ◌<◌, ◌≤◌, Bool, true, false, List, [], ◌∷◌, ◌++◌, ◌⊎◌, inl, inr, max, refl, sym, ◌∙◌, ap, subst, arith, Option, Some, None}
 use Rattle.std.proofs.lemmas.Bool.{false≢true, cond_both}
 use Rattle.std.proofs.lemmas.Bool.Decides.{nat_tests}
 use Rattle.fk_tree.specs.declared.applied.Applied.{Applied}
@@ -15,8 +15,8 @@ use Rattle.fk_spec.specs.Stored.{committed_of, committed_in, committed_as, appli
 use Rattle.fk_spec.specs.Watches.{Firing, firing_of}
 use Rattle.fk_spec.specs.Lanes.{inbox_of}
 use Rattle.fk_spec.specs.Client.{Client, Reading, Sent, acted, client_in, client_of, contains, ready_first, registers}
-use Rattle.fk_spec.specs.Replies.{reply_lines, first_line, read_line, read_lines, looked_lines, notice_of, own_lines, client_lines}
-use Rattle.fk_spec.specs.Next.{IsHistory, next_lines, next_entry, lines_of_client, tx_lines, printed_of}
+use Rattle.fk_spec.specs.Replies.{reply_lines, first_line, read_line, read_lines, looked_lines, notice_of, own_lines}
+use Rattle.fk_spec.specs.Next.{IsHistory, next_lines, lines_of_client, tx_lines, printed_of}
 use Rattle.fk_spec.specs.PublicLines.{lines_onto, lines_of, txs_among, txs_of}
 use Rattle.fk_law.specs.Due.{IsDue}
 use Rattle.fk_law.specs.LeaderLane.{is_published, publishes}

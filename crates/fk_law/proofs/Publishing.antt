@@ -1,12 +1,12 @@
 -- The tree of the transaction lines, and that each request is published once.
-use Rattle.std.specs.Prelude.{◌==◌, ◌||◌, nat_le, nat_lt, nat_eq}
+use Rattle.std.specs.Prelude.{◌||◌, nat_le, nat_lt, nat_eq}
 use Rattle.std.proofs.Common.{◌≡◌, ◌≢◌, ℕ, zero, suc, ◌+◌, ◌-◌, ◌<◌, ◌≤◌, Bool, true, false, cond, List, [], ◌∷◌, max, refl, sym, ◌∙◌, ap, subst, arith, Option, Some, None}
 use Rattle.std.proofs.lemmas.Bool.{false≢true}
 use Rattle.std.proofs.lemmas.Bool.Decides.{nat_tests}
 use Rattle.fk_tree.specs.Apply.{apply, apply_nodes, apply_parts, IsFilled}
 use Rattle.fk_tree.specs.Check.{check}
 use Rattle.fk_tree.specs.Edit.{closes, view_after}
-use Rattle.fk_tree.specs.Fill.{fill, fill_made, fill_part, fill_parts, after_part}
+use Rattle.fk_tree.specs.Fill.{fill_made, fill_parts, after_part}
 use Rattle.fk_tree.specs.Tree.{Nodes, Tree}
 use Rattle.fk_tree.specs.View.{View, look}
 use Rattle.fk_tree.specs.declared.applied.Applied.{Applied}
@@ -16,8 +16,6 @@ use Rattle.fk_tree.specs.declared.request.Part.TheVariants as part
 use Rattle.fk_tree.specs.declared.request.Request.{Request}
 use Rattle.fk_tree.specs.declared.request.Request.TheVariants as request
 use Rattle.fk_print.specs.declared.entry.Entry.{Entry}
-use Rattle.fk_print.specs.declared.line.Act.TheVariants as act
-use Rattle.fk_print.specs.declared.line.Printed.{Printed}
 use Rattle.fk_print.specs.declared.op.Op.{Op}
 use Rattle.fk_print.specs.declared.op.Op.TheVariants as op
 use Rattle.fk_law_tree.specs.Fitting.{Fits}
@@ -26,11 +24,11 @@ use Rattle.fk_law_tree.proofs.Growing.{is_filled}
 use Rattle.fk_spec.specs.Plan.{Plan}
 use Rattle.fk_spec.specs.Start.{Pushed, pushed_of}
 use Rattle.fk_spec.specs.Settling.{is_committed, commits, settled_of, mark_of}
-use Rattle.fk_spec.specs.Stored.{committed_of, committed_in, committed_as, applied_as, with_filled, filled_after, up_to}
+use Rattle.fk_spec.specs.Stored.{committed_of, committed_in, committed_as, applied_as, with_filled, filled_after}
 use Rattle.fk_spec.specs.Next.{IsHistory, printed_of, act_by}
-use Rattle.fk_spec.specs.Promises.{TxFits, TxsFit, PublishesOnce, ShowsApplied}
-use Rattle.fk_spec.specs.Published.{applied_shown, request_shown, name_shown, gone_shown, made_shown, parts_made, tree_of, published_tree, published_view, published_as, filled_on}
-use Rattle.fk_spec.specs.PublicLines.{greatest_tx, greatest_request, txs_of}
+use Rattle.fk_spec.specs.Promises.{TxFits, TxsFit, ShowsApplied}
+use Rattle.fk_spec.specs.Published.{applied_shown, request_shown, name_shown, gone_shown, made_shown, parts_made, tree_of, published_tree, published_as, filled_on}
+use Rattle.fk_spec.specs.PublicLines.{greatest_tx, greatest_request}
 use Rattle.fk_law.specs.Due.{IsDue, IsPushOf}
 use Rattle.fk_law.specs.Numbered.{with_some, numbered}
 use Rattle.fk_law.specs.Publishing.{all_printed, PublishedTreeIsShown, EachRequestOnce}

@@ -12,12 +12,12 @@ use Rattle.fk_print.specs.declared.entry.Entry.{Entry}
 use Rattle.fk_print.specs.declared.op.Op.{Op}
 use Rattle.fk_print.specs.declared.op.Op.TheVariants as op
 use Rattle.fk_spec.specs.Plan.{Plan}
-use Rattle.fk_spec.specs.Start.{Follows, starts_of, seen_with}
+use Rattle.fk_spec.specs.Start.{Follows, seen_with}
 use Rattle.fk_spec.specs.Locks.{granted, granted_in}
 use Rattle.fk_spec.specs.Settling.{last_of_session}
 use Rattle.fk_spec.specs.Follower.{Follower, Granted, next_with, to_lock}
 use Rattle.fk_spec.specs.Follower as follower
-use Rattle.fk_spec.specs.Function.{Following, place_of, actor}
+use Rattle.fk_spec.specs.Function.{place_of, actor}
 use Rattle.fk_spec.specs.Next.{IsHistory}
 use Rattle.fk_law_tree.proofs.Members.{or_left}
 use Rattle.fk_law.specs.Due.{IsDue}

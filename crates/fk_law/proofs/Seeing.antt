@@ -1,12 +1,11 @@
 -- What a follower at work has seen is current, and a close has listed all that its session owns.
 use Rattle.std.specs.Prelude.{◌==◌}
-use Rattle.std.proofs.Common.{◌≡◌, ◌≢◌, ℕ, ◌+◌, ◌≤◌, ◌++◌, Bool, true, false, cond, ◌||◌, List, [], ◌∷◌, refl, sym, ◌∙◌, ap, subst, arith, Option, Some, None}
-use Rattle.std.proofs.lemmas.Bool.{false≢true, cond_both}
-use Rattle.std.proofs.lemmas.Bool.Decides.{nat_tests}
-use Rattle.fk_base.specs.Path.{PathNames, path_cmp, parent, last_name, is_root, same_path}
+use Rattle.std.proofs.Common.{◌≡◌, ◌≢◌, ℕ, ◌+◌, ◌++◌, true, false, cond, ◌||◌, List, [], ◌∷◌, refl, sym, ◌∙◌, ap, subst, arith, Option, Some, None}
+use Rattle.std.proofs.lemmas.Bool.{false≢true}
+use Rattle.fk_base.specs.Path.{PathNames, path_cmp, parent, last_name, same_path}
 use Rattle.fk_tree.specs.Edit.{closes}
 use Rattle.fk_tree.specs.Fill.{final_path}
-use Rattle.fk_tree.specs.Locks.{with_parent, with_parents, parts_lock_paths, numbered_path, numbered_paths, lock_paths}
+use Rattle.fk_tree.specs.Locks.{with_parent, with_parents, parts_lock_paths, numbered_paths, lock_paths}
 use Rattle.fk_tree.specs.Sorted.{has_path, rises, in_path_order}
 use Rattle.fk_tree.specs.declared.node.Node.{Node}
 use Rattle.fk_tree.specs.declared.request.Request.{Request}
@@ -21,17 +20,17 @@ use Rattle.fk_law_tree.proofs.Lists.{ordered_rises}
 use Rattle.fk_law_tree.proofs.Members.{flipped, or_left, or_right}
 use Rattle.fk_spec.specs.Plan.{Plan}
 use Rattle.fk_spec.specs.Start.{Follows, clock_of, task_of, push_of, request_of, seen_with}
-use Rattle.fk_spec.specs.Locks.{Grant, is_push_of, last_grant, grant_in, granted}
-use Rattle.fk_spec.specs.Settling.{settled_in, settled_of, last_of_session}
-use Rattle.fk_spec.specs.Stored.{committed_of, committed_in, owned_after, stored_view}
+use Rattle.fk_spec.specs.Locks.{is_push_of, last_grant, grant_in}
+use Rattle.fk_spec.specs.Settling.{settled_of, last_of_session}
+use Rattle.fk_spec.specs.Stored.{committed_of, stored_view}
 use Rattle.fk_spec.specs.Follower.{Follower, Granted, node_in, view_of, next_with, to_lock, to_begin, begin}
 use Rattle.fk_spec.specs.Follower as follower
 use Rattle.fk_spec.specs.Function.{Following, place_of, actor}
 use Rattle.fk_spec.specs.Next.{IsHistory}
 use Rattle.fk_law.specs.Due.{IsDue}
 use Rattle.fk_law.specs.Losing.{IsOwn, IsLive}
-use Rattle.fk_law.specs.Progress.{Progress, Works, progress, progress_after}
-use Rattle.fk_law.specs.Seeing.{paths_of, IsCurrent, AreCurrent, next_lock, Locks}
+use Rattle.fk_law.specs.Progress.{Works, progress, progress_after}
+use Rattle.fk_law.specs.Seeing.{paths_of, IsCurrent, AreCurrent, Locks}
 use Rattle.fk_law.specs.Sessions.{BeatsClients}
 use Rattle.fk_law.proofs.Due.{due}
 use Rattle.fk_law.proofs.Moving.{ahead}
@@ -44,7 +43,7 @@ use Rattle.fk_law.proofs.Rising.{own_before}
 use Rattle.fk_law.proofs.Sending.{request_stays}
 use Rattle.fk_law.proofs.Clients.{follows_a_client}
 use Rattle.fk_law.proofs.Deciding.{StandsSo, stands_at, in_order_of, left_over, first_left, same_follower, unsettled_nothing}
-use Rattle.fk_law.proofs.Recording.{granted_after, records_are_of_its_grants}
+use Rattle.fk_law.proofs.Recording.{granted_after}
 use Rattle.fk_law.proofs.Filling.{owned_has, not_none}
 use Rattle.fk_law.proofs.Leaving.{Sees, Lists, IsSeen, Leaves, leaves, owned_back}
 

@@ -1,18 +1,12 @@
 -- Commits in the order of their numbers, which is that of the transaction lines.
-use Rattle.std.specs.Prelude.{◌≡◌, ℕ, zero, suc, ◌≤◌, List, [], ◌∷◌, Option, Some, None}
+use Rattle.std.specs.Prelude.{◌≡◌, ℕ, zero, suc, List, [], ◌∷◌, Option, Some, None}
 use Rattle.fk_tree.specs.Edit.{view_after}
-use Rattle.fk_tree.specs.View.{look}
 use Rattle.fk_tree.specs.declared.applied.Applied.{Applied}
 use Rattle.fk_print.specs.declared.entry.Entry.{Entry}
-use Rattle.fk_print.specs.declared.line.Printed.{Printed}
 use Rattle.fk_law_tree.specs.Following.{AllFit, IsShown}
 use Rattle.fk_spec.specs.Plan.{Plan}
-use Rattle.fk_spec.specs.Settling.{mark_of}
 use Rattle.fk_spec.specs.Stored.{committed_of, applied_as, up_to}
-use Rattle.fk_spec.specs.Next.{IsHistory, printed_of}
-use Rattle.fk_spec.specs.Promises.{PublishesOnce}
-use Rattle.fk_spec.specs.Published.{published_view}
-use Rattle.fk_spec.specs.PublicLines.{txs_of}
+use Rattle.fk_spec.specs.Next.{IsHistory}
 use Rattle.fk_law.specs.Sessions.{BeatsClients}
 
 abbrev pub with_some : Option Applied → List Applied → List Applied

@@ -13,7 +13,7 @@ use Rattle.fk_spec.specs.Plan.{Plan}
 use Rattle.fk_spec.specs.Start.{Pushed, pushed_of}
 use Rattle.fk_spec.specs.Locks.{granted}
 use Rattle.fk_spec.specs.Settling.{last_of_session}
-use Rattle.fk_spec.specs.Stored.{committed_of, committed_as, filled_after, gone_after, last_edit, last_editor, stored_view, up_to}
+use Rattle.fk_spec.specs.Stored.{committed_of, committed_as, gone_after, last_edit, last_editor, stored_view, up_to}
 use Rattle.fk_spec.specs.Next.{IsHistory}
 use Rattle.fk_law.specs.Due.{IsPushOf}
 use Rattle.fk_law.specs.Losing.{IsLive}

@@ -1,14 +1,11 @@
 ghost use Rattle.fk_law.specs.Numbering.{CloseListsAll, ClosedSessionOwnsNothing, CommitFitsAtItsNumber, CommitsRise, LaterNumbersLeave, LivePushIsNewest};
 
 /// A law: a live push is beyond the last commit of its session and of each path that its function was
-/// granted.
-pub fn live_push_is_newest()
-    ensures { LivePushIsNewest }
-{}
-
-/// A law: each commit is beyond those before it that edited one of its paths, or were of its session.
+/// granted, and each commit is beyond those before it that edited one of its paths, or were of its
+/// session.
 pub fn commits_rise()
-    ensures { CommitsRise }
+    ensures live { LivePushIsNewest }
+    ensures all { CommitsRise }
 {}
 
 /// A law: commits beyond a number that don't edit a path count for nothing there.

@@ -1,13 +1,10 @@
 ghost use Rattle.fk_law.specs.Fitting.{CommitsFit, CommittedAsPushed, FollowerFillsTheSame, LivePushEditsWhatItLocked, LivePushFits, OnlyTheHolderEdits, PushLocksWhatItEdits, StoredTreeIsShown};
 
-/// A law: a live push, filled from what the commits left, fits that.
+/// A law: a live push, filled from what the commits left, fits that, and edits only what was granted to
+/// its function.
 pub fn live_push_fits()
-    ensures { LivePushFits }
-{}
-
-/// A law: what a live push would edit was granted to its function.
-pub fn live_push_edits_what_it_locked()
-    ensures { LivePushEditsWhatItLocked }
+    ensures fits { LivePushFits }
+    ensures locked { LivePushEditsWhatItLocked }
 {}
 
 /// A law: what a commit edited was granted to its push's function.
@@ -20,14 +17,11 @@ pub fn only_the_holder_edits()
     ensures { OnlyTheHolderEdits }
 {}
 
-/// A law: each commit fits what those before it left.
+/// A law: each commit fits what those before it left, and the tree after all of them is well formed and
+/// shows what their edits show.
 pub fn commits_fit()
-    ensures { CommitsFit }
-{}
-
-/// A law: the tree after all commits is well formed and shows what their edits show.
-pub fn stored_tree_is_shown()
-    ensures { StoredTreeIsShown }
+    ensures fit { CommitsFit }
+    ensures shown { StoredTreeIsShown }
 {}
 
 /// A law: what is filled from the commits for a follower that is about to push fits what the follower has

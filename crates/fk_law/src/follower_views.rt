@@ -1,13 +1,10 @@
 ghost use Rattle.fk_law.specs.Seeing.{FollowerDecidesFromItsViews, GrantsAreTheFirstLockPaths, OwnedListIsComplete, RecordsAreOfItsGrants, ViewIsCurrentWhileTheLockIsOwn};
 
-/// A law: a follower's records are of the paths that it was granted, in the order of the grants.
+/// A law: a follower's records are of the paths that it was granted, in the order of the grants, and
+/// those are the first of its request's lock paths, in their order.
 pub fn records_are_of_its_grants()
-    ensures { RecordsAreOfItsGrants }
-{}
-
-/// A law: a follower was granted the first of its request's lock paths, in their order.
-pub fn grants_are_the_first_lock_paths()
-    ensures { GrantsAreTheFirstLockPaths }
+    ensures records { RecordsAreOfItsGrants }
+    ensures locks { GrantsAreTheFirstLockPaths }
 {}
 
 /// A law: a follower stands where what it has seen brings it: it locks the next path, and decides by

@@ -26,7 +26,7 @@ mod shown_losses;
 pub use closed_sessions::{at_work_is_open, closed_has_no_live_push, no_commit_after_close};
 pub use commit_numbers::{
     close_lists_all, closed_session_owns_nothing, commit_fits_at_its_number, commits_rise,
-    later_numbers_leave, live_push_is_newest,
+    later_numbers_leave,
 };
 pub use commit_order::{
     commits_in_order_on_a_path, commits_rise_in_a_session, commits_rise_on_a_path,
@@ -34,12 +34,12 @@ pub use commit_order::{
 };
 pub use due_entries::every_entry_is_due;
 pub use fitting_pushes::{
-    commits_fit, committed_as_pushed, follower_fills_the_same, live_push_edits_what_it_locked,
-    live_push_fits, only_the_holder_edits, push_locks_what_it_edits, stored_tree_is_shown,
+    commits_fit, committed_as_pushed, follower_fills_the_same, live_push_fits,
+    only_the_holder_edits, push_locks_what_it_edits,
 };
 pub use follower_views::{
-    follower_decides_from_its_views, grants_are_the_first_lock_paths, owned_list_is_complete,
-    records_are_of_its_grants, view_is_current_while_the_lock_is_own,
+    follower_decides_from_its_views, owned_list_is_complete, records_are_of_its_grants,
+    view_is_current_while_the_lock_is_own,
 };
 pub use functions::{
     function_does_its_task, in_flight_are_numbered, started_are_numbered, task_never_changes,
@@ -64,8 +64,8 @@ pub use lost_locks::{
     dead_push_never_commits, dead_stays_dead, lock_miss_is_dead, overtaken_push_never_commits,
     settled_miss_is_over,
 };
-pub use numbered_commits::{numbered_fit, numbered_leave_the_same, numbered_tree_is_shown};
-pub use publications::{each_request_once, published_tree_is_shown, txs_are_the_commits};
+pub use numbered_commits::numbered_commits_fit;
+pub use publications::{each_request_once, txs_are_the_commits};
 pub use pushes::{
     committer_commits_a_push, each_number_is_a_push, one_push_for_each_function,
     push_is_of_a_request, push_never_changes, pushes_are_numbered,
