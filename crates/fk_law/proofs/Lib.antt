@@ -32,5 +32,6 @@ pub mod Rising
 pub mod Seeing
 pub mod Sending
 pub mod Settled
+pub mod Stamping
 pub mod Standing
 pub mod Starting

@@ -17,7 +17,7 @@ use Rattle.fk_law_tree.proofs.Parting.{fits_after_others}
 use Rattle.fk_spec.specs.Stored.{applied_as, last_editor, up_to}
 use Rattle.fk_law.specs.Numbering.{last_in, IsNewest, AllNewest}
 
-test_is : (a b : ℕ) → a ≤ b → nat_le a b ≡ true
+pub test_is : (a b : ℕ) → a ≤ b → nat_le a b ≡ true
 test_is a b e = grind (arith, nat_tests)
 
 test_not : (a b : ℕ) → b < a → nat_le a b ≡ false

@@ -127,7 +127,7 @@ abbrev ArePrinted : ℕ → List Applied → List Line → Type 0
 ArePrinted mark done ls = txs_among ls ≡ all_printed (numbered mark done)
 
 -- a publication: no commit lies between the mark and its number
-published_none : (p : Plan) (n t : ℕ) (e : Entry) (h : List Entry) → IsHistory p (e ∷ h) → e.op ≡ op.PublishOk n t → IsDue p h (op.PublishOk n t) → (k : ℕ) → mark_of h < k → k < t → (o : Option Applied) → committed_as p k h ≡ o → o ≡ None
+pub published_none : (p : Plan) (n t : ℕ) (e : Entry) (h : List Entry) → IsHistory p (e ∷ h) → e.op ≡ op.PublishOk n t → IsDue p h (op.PublishOk n t) → (k : ℕ) → mark_of h < k → k < t → (o : Option Applied) → committed_as p k h ≡ o → o ≡ None
 published_none p n t e h l b d k u v None q = refl
 published_none p n t e h l b d k u v (Some a) q = absurd (omega (arith, u, low))
   where

@@ -18,3 +18,4 @@ pub mod Rising
 pub mod Seeing
 pub mod Sessions
 pub mod Settled
+pub mod Stamping

@@ -22,6 +22,7 @@ mod sent_requests;
 mod sessions;
 mod settlings;
 mod shown_losses;
+mod user_records;
 
 pub use closed_sessions::{at_work_is_open, closed_has_no_live_push, no_commit_after_close};
 pub use commit_numbers::{
@@ -85,3 +86,4 @@ pub use settlings::{
     settles_the_next,
 };
 pub use shown_losses::{loser_has_found, loss_has_its_lines, lost_has_a_loss, lost_has_its_lines};
+pub use user_records::record_shows_the_tree;
