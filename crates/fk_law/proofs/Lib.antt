@@ -12,6 +12,7 @@ pub mod Finding
 pub mod Fitting
 pub mod Growing
 pub mod Knowing
+pub mod Lasting
 pub mod Leading
 pub mod Leaving
 pub mod Living
@@ -28,6 +29,7 @@ pub mod Printing
 pub mod Publishing
 pub mod Pushing
 pub mod Recording
+pub mod Refusing
 pub mod Rising
 pub mod Seeing
 pub mod Sending

@@ -91,7 +91,7 @@ own_others : (n m : ℕ) (g : Option Grant) → IsOwn n g → n ≢ m → IsOthe
 own_others n m None a b = a
 own_others n m (Some g) a b = grind arith
 
-history_before : (p : Plan) (h more : List Entry) → IsHistory p (more ++ h) → IsHistory p h
+pub history_before : (p : Plan) (h more : List Entry) → IsHistory p (more ++ h) → IsHistory p h
 history_before p h [] l = l
 history_before p h (e ∷ more) l = history_before p h more l.0
 

@@ -123,7 +123,7 @@ apart_of : (path q : PathNames) (ps : List PathNames) → has_path path ps ≡ f
 apart_of path q ps a b = by_test (same_path path q) (λ z. z ≡ false) (λ e. absurd (false≢true (sym a ∙ ap (λ x. has_path x ps) (same_path_is path q e) ∙ b))) (λ _. refl)
 
 -- a follower at work has pushed nothing, so what commits isn't its own
-works_apart : (p : Plan) (n : ℕ) (h : List Entry) (f : Follower) → IsHistory p h → place_of p n h ≡ Following f → progress f.stage ≡ Works → (t : ℕ) (x : IsLive t h) → n ≢ x.function
+pub works_apart : (p : Plan) (n : ℕ) (h : List Entry) (f : Follower) → IsHistory p h → place_of p n h ≡ Following f → progress f.stage ≡ Works → (t : ℕ) (x : IsLive t h) → n ≢ x.function
 works_apart p n h f l b w t x e = false≢true (sym (at_work_unpushed p t n h f l b w) ∙ subst (λ m. is_push_of m (push_of t h) ≡ true) (sym e) (is_push_of_it t x.function x.session x.k h x.is_of))
 
 sees_moves : (p : Plan) (n : ℕ) (e : Entry) (h : List Entry) (r : Request) (o : Op) (f : Follower) → e.op ≡ o → IsDue p h o → place_of p n h ≡ Following f → actor o ≡ Some n

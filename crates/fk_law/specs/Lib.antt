@@ -13,6 +13,7 @@ pub mod Numbering
 pub mod Progress
 pub mod Publishing
 pub mod Pushes
+pub mod Refusing
 pub mod Requests
 pub mod Rising
 pub mod Seeing

@@ -8,14 +8,11 @@ pub fn commits_rise()
     ensures all { CommitsRise }
 {}
 
-/// A law: commits beyond a number that don't edit a path count for nothing there.
-pub fn later_numbers_leave()
-    ensures { LaterNumbersLeave }
-{}
-
-/// A law: each commit fits what those of lesser numbers leave, whenever they were made.
+/// A law: each commit fits what those of lesser numbers leave, whenever they were made; and commits
+/// beyond a number that don't edit a path count for nothing there.
 pub fn commit_fits_at_its_number()
-    ensures { CommitFitsAtItsNumber }
+    ensures fits { CommitFitsAtItsNumber }
+    ensures others { LaterNumbersLeave }
 {}
 
 /// A law: a live close removes all that its session owns at its number, and at each beyond it.

@@ -17,6 +17,7 @@ mod lost_locks;
 mod numbered_commits;
 mod publications;
 mod pushes;
+mod refusals;
 mod request_outcomes;
 mod sent_requests;
 mod sessions;
@@ -27,7 +28,6 @@ mod user_records;
 pub use closed_sessions::{at_work_is_open, closed_has_no_live_push, no_commit_after_close};
 pub use commit_numbers::{
     close_lists_all, closed_session_owns_nothing, commit_fits_at_its_number, commits_rise,
-    later_numbers_leave,
 };
 pub use commit_order::{
     commits_in_order_on_a_path, commits_rise_in_a_session, commits_rise_on_a_path,
@@ -71,6 +71,7 @@ pub use pushes::{
     committer_commits_a_push, each_number_is_a_push, one_push_for_each_function,
     push_is_of_a_request, push_never_changes, pushes_are_numbered,
 };
+pub use refusals::refusal_holds_at_its_number;
 pub use request_outcomes::{
     applied_is_committed, one_commit_for_each_request, outcome_is_of_a_settled,
     outcome_never_changes, settled_have_an_outcome,
