@@ -1,30 +1,29 @@
 -- Refusals hold at their numbers.
 use Rattle.std.specs.Prelude.{◌||◌, nat_le}
-use Rattle.std.proofs.Common.{◌≡◌, ◌≢◌, ℕ, ◌+◌, ◌≤◌, ◌++◌, Bool, true, false, cond, eqb, List, [], ◌∷◌, max, append-nil, refl, sym, ◌∙◌, ap, subst, arith, Option, Some, None}
-use Rattle.std.proofs.lemmas.Bool.{false≢true, cond_both}
-use Rattle.std.proofs.lemmas.Bool.Decides.{nat_tests}
+use Rattle.std.proofs.Common.{◌≡◌, ℕ, ◌+◌, ◌≤◌, ◌++◌, Bool, true, false, cond, eqb, List, [], ◌∷◌, max, append-nil, refl, sym, ◌∙◌, ap, subst, arith, Some, None}
+use Rattle.std.proofs.lemmas.Bool.{false≢true}
 use Rattle.fk_base.specs.Path.{PathNames, same_path}
 use Rattle.fk_base.specs.declared.code.Code.{Code}
 use Rattle.fk_base.specs.declared.code.Code.TheVariants as code
 use Rattle.fk_tree.specs.Check.{Refusal, check, check_open}
-use Rattle.fk_tree.specs.Edit.{after, closes, view_after}
+use Rattle.fk_tree.specs.Edit.{closes, view_after}
 use Rattle.fk_tree.specs.Locks.{lock_paths}
 use Rattle.fk_tree.specs.Sorted.{has_path}
 use Rattle.fk_tree.specs.View.{View, look}
 use Rattle.fk_tree.specs.declared.applied.Applied.{Applied}
 use Rattle.fk_tree.specs.declared.request.Request.{Request}
-use Rattle.fk_tree.proofs.Order.{by_test, same_path_is, same_path_self}
+use Rattle.fk_tree.proofs.Order.{same_path_is, same_path_self}
 use Rattle.fk_print.specs.declared.entry.Entry.{Entry}
 use Rattle.fk_print.specs.declared.op.Op.{Op}
 use Rattle.fk_print.specs.declared.op.Op.TheVariants as op
-use Rattle.fk_law_tree.specs.Following.{IsShown, tree_after}
+use Rattle.fk_law_tree.specs.Following.{tree_after}
 use Rattle.fk_law_tree.proofs.Growing.{locked_is_enough}
 use Rattle.fk_law_tree.proofs.Members.{flipped, or_left, or_right}
 use Rattle.fk_spec.specs.Plan.{Plan}
-use Rattle.fk_spec.specs.Start.{Pushed, pushed_of, request_of, seen_with}
+use Rattle.fk_spec.specs.Start.{request_of, seen_with}
 use Rattle.fk_spec.specs.Locks.{last_grant, granted}
 use Rattle.fk_spec.specs.Settling.{settled_of, last_of_session}
-use Rattle.fk_spec.specs.Stored.{committed_of, committed_in, with_filled, filled_after, stored_view, last_edit, up_to}
+use Rattle.fk_spec.specs.Stored.{committed_of, committed_in, with_filled, stored_view, last_edit, up_to}
 use Rattle.fk_spec.specs.Follower.{Follower, Granted, node_in, view_of, greatest_last, refusal_number, next_with, to_begin}
 use Rattle.fk_spec.specs.Follower as follower
 use Rattle.fk_spec.specs.Function.{Following, place_of, actor}
@@ -32,7 +31,7 @@ use Rattle.fk_spec.specs.Next.{IsHistory}
 use Rattle.fk_law.specs.Due.{IsDue, HoldsAll, Refuses}
 use Rattle.fk_law.specs.Losing.{IsOwn}
 use Rattle.fk_law.specs.Numbered.{numbered}
-use Rattle.fk_law.specs.Progress.{Works, Expires, progress, progress_after}
+use Rattle.fk_law.specs.Progress.{Works, progress}
 use Rattle.fk_law.specs.Refusing.{ClosedAtItsNumber, RefusalHoldsAtItsNumber}
 use Rattle.fk_law.specs.Seeing.{paths_of, AreCurrent}
 use Rattle.fk_law.specs.Sessions.{BeatsClients}

@@ -1,6 +1,6 @@
 -- User records show the tree of their numbers.
-use Rattle.std.specs.Prelude.{◌==◌, ◌||◌, nat_le, nat_eq}
-use Rattle.std.proofs.Common.{◌≡◌, ◌≢◌, ℕ, ◌+◌, ◌<◌, ◌≤◌, ◌++◌, Bool, true, false, cond, List, [], ◌∷◌, max, refl, sym, ◌∙◌, ap, subst, arith, Option, Some, None}
+use Rattle.std.specs.Prelude.{nat_le, nat_eq}
+use Rattle.std.proofs.Common.{◌≡◌, ◌≢◌, ℕ, ◌<◌, ◌≤◌, ◌++◌, Bool, true, false, cond, List, [], ◌∷◌, max, refl, sym, ◌∙◌, ap, subst, arith, Option, Some, None}
 use Rattle.std.proofs.lemmas.Bool.{false≢true}
 use Rattle.std.proofs.lemmas.Bool.Decides.{nat_tests}
 use Rattle.fk_base.specs.Path.{PathNames, same_path}
@@ -16,7 +16,7 @@ use Rattle.fk_law_tree.proofs.Counting.{unedited_stays}
 use Rattle.fk_law_tree.proofs.Members.{flipped}
 use Rattle.fk_spec.specs.Plan.{Plan}
 use Rattle.fk_spec.specs.Settling.{is_committed, commits, mark_of, mark_in, swept_of}
-use Rattle.fk_spec.specs.Stored.{committed_of, committed_in, committed_as, applied_as, with_filled, record_of, stamp_of, stamp_in, up_to}
+use Rattle.fk_spec.specs.Stored.{committed_of, committed_in, committed_as, applied_as, with_filled, stamp_of, stamp_in, up_to}
 use Rattle.fk_spec.specs.Leader.{next_leader, to_put, to_notify, after_put, paths_to_put}
 use Rattle.fk_spec.specs.Leader as leader
 use Rattle.fk_spec.specs.Watches.{Firing, swept_by}
@@ -24,16 +24,14 @@ use Rattle.fk_spec.specs.Function.{Leading, place_of, actor}
 use Rattle.fk_spec.specs.Next.{IsHistory}
 use Rattle.fk_law.specs.Due.{IsDue}
 use Rattle.fk_law.specs.LeaderLane.{Stands}
-use Rattle.fk_law.specs.Sessions.{BeatsClients}
 use Rattle.fk_law.specs.Stamping.{PublishedAreStamped, RecordIsTheNode, FinalBelowTheSweep}
 use Rattle.fk_law.proofs.Due.{due}
 use Rattle.fk_law.proofs.Moving.{OnLeader, leader_step}
-use Rattle.fk_law.proofs.Leading.{leader_stands_where_it_may, commits_are_beyond_the_sweep, mark_behind_sweep}
-use Rattle.fk_law.proofs.Sending.{committed_is_filled, committed_other, committed_never_changes, tx_is}
+use Rattle.fk_law.proofs.Leading.{leader_stands_where_it_may, commits_are_beyond_the_sweep}
+use Rattle.fk_law.proofs.Sending.{committed_is_filled, committed_other, committed_never_changes}
 use Rattle.fk_law.proofs.Growing.{numbers_never_fall}
 use Rattle.fk_law.proofs.Leaving.{commit_is}
 use Rattle.fk_law.proofs.Printing.{published_none}
-use Rattle.fk_law.proofs.Numbering.{test_is}
 use Rattle.fk_law.proofs.Numbered.{AllOnce, all_once}
 use Rattle.fk_law.proofs.Publishing.{published_tree_is_shown}
 
