@@ -1,3 +1,4 @@
+pub mod Beating
 pub mod Beyond
 pub mod Carrying
 pub mod Clients

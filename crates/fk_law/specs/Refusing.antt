@@ -27,7 +27,7 @@ RefusalHoldsAtItsNumber =
     (p : Plan) (n place at : ℕ) (code : Code) (h : List Entry) (f : Follower) (r : Request) → IsHistory p h → BeatsClients h → IsDue p h (op.RefuseOk n code place at) → place_of p n h ≡ Following f → request_of p f.session f.k h ≡ Some r
     → check (view_after (up_to at (committed_of p h))) f.session r ≡ Some (record { code = code; place = place })
 
--- It holds in every longer history, where no push will have a number up to the refusal's that hadn't one then.
+-- It holds in every longer history, where the refusal's number is at most that of the last push.
 abbrev pub RefusalHoldsForEver : Type 0
 RefusalHoldsForEver =
     (p : Plan) (n place at : ℕ) (code : Code) (e : Entry) (h more : List Entry) (f : Follower) (r : Request) → IsHistory p (more ++ e ∷ h) → BeatsClients (more ++ e ∷ h) → e.op ≡ op.RefuseOk n code place at → at ≤ pushes_of h → place_of p n h ≡ Following f → request_of p f.session f.k h ≡ Some r
