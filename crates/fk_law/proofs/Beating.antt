@@ -1,6 +1,6 @@
 -- The heartbeats of a schedule are of clients.
-use Rattle.std.specs.Prelude.{◌==◌, nat_lt, nat_le}
-use Rattle.std.proofs.Common.{◌≡◌, ℕ, ◌+◌, ◌≤◌, ◌++◌, Bool, true, false, List, [], ◌∷◌, refl, sym, ◌∙◌, ap, subst, arith, Option, Some, None}
+use Rattle.std.specs.Prelude.{◌==◌}
+use Rattle.std.proofs.Common.{ℕ, ◌+◌, ◌++◌, Bool, true, false, List, [], ◌∷◌, sym, ap, subst, arith, Option, Some, None}
 use Rattle.std.proofs.lemmas.Bool.{cond_both}
 use Rattle.std.proofs.lemmas.Bool.Decides.{nat_tests}
 use Rattle.fk_tree.specs.Sorted.{in_path_order}
@@ -12,7 +12,7 @@ use Rattle.fk_print.specs.declared.op.Op.TheVariants as op
 use Rattle.fk_script.specs.declared.deployment.Turn.{Turn}
 use Rattle.fk_script.specs.declared.deployment.Turn.TheVariants as turn
 use Rattle.fk_spec.specs.Plan.{Plan, Ask, Want, Unfit, Writes, Reads, asked, plan_of}
-use Rattle.fk_spec.specs.Start.{Task, Follows, Leads, Notifies, Probes, Push, clock_of, starts_of, task_of, push_of, sends_of, or_else}
+use Rattle.fk_spec.specs.Start.{Task, Follows, Leads, Notifies, Probes, Push, starts_of, task_of, push_of, or_else}
 use Rattle.fk_spec.specs.Locks as locks
 use Rattle.fk_spec.specs.Locks.{granted, first_passed}
 use Rattle.fk_spec.specs.Settling.{settled_of}
@@ -28,7 +28,7 @@ use Rattle.fk_spec.specs.Heartbeat as heartbeat
 use Rattle.fk_spec.specs.Function.{Place, Absent, Following, Leading, Telling, Beating, place_of, function_op, fault_op, in_flight}
 use Rattle.fk_spec.specs.Client.{Client, Sent, Reading, client_op, client_of, failed_op, pong_or, take_or, take_op, look_or, look_sent_or, look_op, watch_or, register_asked, next_command_op, begin_op, may_begin}
 use Rattle.fk_spec.specs.Next.{IsHistory, next_op, follow_op, lead_op, tell_op, crash_op}
-use Rattle.fk_spec.specs.Schedule.{crashes, drain_begin, is_idle, step_of_first, lead_where, tell_where, deliver_where, deliver_first, client_first, next_of_drain, Plays, Empties, Emptied, Goes, Drains, TakesTurn, TakesTurns}
+use Rattle.fk_spec.specs.Schedule.{crashes, drain_begin, is_idle, step_of_first, lead_where, tell_where, deliver_where, deliver_first, client_first, next_of_drain, Plays, Empties, Emptied, Goes, Drains, TakesTurns}
 use Rattle.fk_law.specs.Sessions.{BeatsAClient, BeatsClients, IsBeatOfAClient, TurnsBeatClients, ScheduledBeatsClients}
 
 -- Operations that start no heartbeat. -----------------------------------------------------------------
