@@ -94,7 +94,7 @@ at_work_is_open p n h f l b w s = subst (λ q. OpenIn p h f.session f.k q) w (su
 
 -- Pushes. ---------------------------------------------------------------------------------------------
 
-new_push : (t : ℕ) (h : List Entry) (o : Op) (y : Push) → push_here t (pushed_in (clock_of h) o) ≡ Some y → o ≡ op.Push y.function t
+pub new_push : (t : ℕ) (h : List Entry) (o : Op) (y : Push) → push_here t (pushed_in (clock_of h) o) ≡ Some y → o ≡ op.Push y.function t
 new_push t h o y e = grind (arith, nat_tests)
 
 pusher_open : (p : Plan) (t m c k : ℕ) (h : List Entry) → IsHistory p h → IsDue p h (op.Push m t) → task_of m h ≡ Some (Follows c k) → settled_of c h + 1 ≡ k → (stored_view p h).closed c ≡ false
@@ -106,7 +106,7 @@ pusher_open p t m c k h l d x s =
     same_request : (a b c k : ℕ) → Some (Follows a b) ≡ Some (Follows c k) → (a ≡ c) × (b ≡ k)
     same_request a b c k e = grind arith
 
-follower_same : (p : Plan) (n t c k : ℕ) (e : Entry) (h : List Entry) → IsHistory p (e ∷ h) → e.op ≡ op.Push n t → IsDue p h (op.Push n t) → task_of n (e ∷ h) ≡ Some (Follows c k) → task_of n h ≡ Some (Follows c k)
+pub follower_same : (p : Plan) (n t c k : ℕ) (e : Entry) (h : List Entry) → IsHistory p (e ∷ h) → e.op ≡ op.Push n t → IsDue p h (op.Push n t) → task_of n (e ∷ h) ≡ Some (Follows c k) → task_of n h ≡ Some (Follows c k)
 follower_same p n t c k e h l b d x = let w = follower_task p n h d.0 l.0 d.1 in w ∙ sym (task_stays p n e h (Follows d.0.session d.0.k) l w) ∙ x
 
 closed_push_step : (p : Plan) (t n c k : ℕ) (e : Entry) (h : List Entry) (o : Option Push) → push_here t (pushed_in (clock_of h) e.op) ≡ o → IsHistory p (e ∷ h) → (IsPushOf t n c k h → settled_of c h + 1 ≡ k → (stored_view p h).closed c ≡ false) → IsPushOf t n c k (e ∷ h) → settled_of c (e ∷ h) + 1 ≡ k → (stored_view p (e ∷ h)).closed c ≡ false
@@ -126,7 +126,7 @@ closed_push_step p t n c k e h (Some y) b l i x s =
     some_same : (y z : Push) → Some y ≡ Some z → y ≡ z
     some_same y z e = cc
 
-closed_push : (p : Plan) (t n c k : ℕ) (h : List Entry) → IsHistory p h → IsPushOf t n c k h → settled_of c h + 1 ≡ k → (stored_view p h).closed c ≡ false
+pub closed_push : (p : Plan) (t n c k : ℕ) (h : List Entry) → IsHistory p h → IsPushOf t n c k h → settled_of c h + 1 ≡ k → (stored_view p h).closed c ≡ false
 closed_push p t n c k [] l x s = refl
 closed_push p t n c k (e ∷ h) l x s = closed_push_step p t n c k e h (push_here t (pushed_in (clock_of h) e.op)) refl l (closed_push p t n c k h l.0) x s
 

@@ -28,7 +28,7 @@ use Rattle.fk_law.proofs.Rising.{commits_rise_in_a_session, its_push_before, pus
 -- The last commit of a session. -----------------------------------------------------------------------
 
 -- a session's last commit is one of its pushes
-record IsLastOf (c : ℕ) (t : ℕ) (h : List Entry) : Type 0 where
+pub record IsLastOf (c : ℕ) (t : ℕ) (h : List Entry) : Type 0 where
   pub function : ℕ
   pub k : ℕ
   pub is_of : IsPushOf t function c k h
@@ -40,7 +40,7 @@ last_stays p c t e h l x = record { function = x.function; k = x.k; is_of = its_
 last_new : (p : Plan) (c n t : ℕ) (e : Entry) (h : List Entry) → IsHistory p (e ∷ h) → e.op ≡ op.CommitOk n t → (d : IsDue p h (op.CommitOk n t)) → d.1 ≡ c → IsLastOf c t (e ∷ h)
 last_new p c n t e h l b d f = record { function = d.0; k = d.2; is_of = its_push_stays p t d.0 c d.2 e h l (subst (λ z. IsPushOf t d.0 z d.2 h) f (commit_of p n t d.0 d.1 d.2 h l.0 d.3)); committed = rw b (grind (arith, nat_tests)) }
 
-last_for_is : (c n t d : ℕ) (h : List Entry) → session_of_push t h ≡ Some d → last_for c h (op.CommitOk n t) (last_of_session c h) ≡ cond (d == c) t (last_of_session c h)
+pub last_for_is : (c n t d : ℕ) (h : List Entry) → session_of_push t h ≡ Some d → last_for c h (op.CommitOk n t) (last_of_session c h) ≡ cond (d == c) t (last_of_session c h)
 last_for_is c n t d h e = ap (λ o. cond (is_session c o) t (last_of_session c h)) e
 
 last_commit : (p : Plan) (c n t : ℕ) (e : Entry) (h : List Entry) → IsHistory p (e ∷ h) → e.op ≡ op.CommitOk n t → IsDue p h (op.CommitOk n t) → (1 ≤ last_of_session c h → IsLastOf c (last_of_session c h) h) → 1 ≤ last_for c h (op.CommitOk n t) (last_of_session c h) → IsLastOf c (last_for c h (op.CommitOk n t) (last_of_session c h)) (e ∷ h)
@@ -59,7 +59,7 @@ last_step : (p : Plan) (c : ℕ) (e : Entry) (h : List Entry) (o : Op) → e.op 
 last_step p c e h (op.CommitOk n t) b l d i a = last_commit p c n t e h l b d i a
 last_step p c e h o b l d i a = last_stays p c (last_of_session c h) e h l (i a)
 
-last_of : (p : Plan) (c : ℕ) (h : List Entry) → IsHistory p h → 1 ≤ last_of_session c h → IsLastOf c (last_of_session c h) h
+pub last_of : (p : Plan) (c : ℕ) (h : List Entry) → IsHistory p h → 1 ≤ last_of_session c h → IsLastOf c (last_of_session c h) h
 last_of p c [] l b = absurd (omega (arith, b))
 last_of p c (e ∷ h) l b = last_step p c e h e.op refl l (due p e h l) (last_of p c h l.0) b
 

@@ -115,7 +115,7 @@ pub record IsReleased (n : ℕ) (h : List Entry) : Type 0 where
 pub its_pusher : (t n m c k : ℕ) (h : List Entry) → IsPushOf t m c k h → is_push_of n (push_of t h) ≡ true → m ≡ n
 its_pusher t n m c k h i e = grind (arith, nat_tests)
 
-refused_now : (n c k s : ℕ) (h : List Entry) (code : Code) (place at : ℕ) → task_of n h ≡ Some (Follows c k) → s + 1 ≡ k → k ≤ count_settling c (settled_in h (op.RefuseOk n code place at)) s
+pub refused_now : (n c k s : ℕ) (h : List Entry) (code : Code) (place at : ℕ) → task_of n h ≡ Some (Follows c k) → s + 1 ≡ k → k ≤ count_settling c (settled_in h (op.RefuseOk n code place at)) s
 refused_now n c k s h code place at e i = grind (arith, nat_tests)
 
 released_step : (p : Plan) (n : ℕ) (e : Entry) (h : List Entry) (b : Bool) → releases n h e.op ≡ b → IsHistory p (e ∷ h) → (has_released n h ≡ true → IsReleased n h) → (b || has_released n h) ≡ true → IsReleased n (e ∷ h)

@@ -36,7 +36,7 @@ last_after h (op.SessionNew n) f = last_of_session f.session h
 last_after h _ f = f.last
 
 -- the same request, so much farther
-abbrev IsAhead : Follower → Progress → ℕ → Follower → Type 0
+abbrev pub IsAhead : Follower → Progress → ℕ → Follower → Type 0
 IsAhead f q l g = (g.session ≡ f.session) × (g.k ≡ f.k) × (progress g.stage ≡ q) × (g.last ≡ l)
 
 lock_ahead : (seen : ℕ) (r : Request) (f g : Follower) (l : ℕ) → g.session ≡ f.session → g.k ≡ f.k → g.last ≡ l → IsAhead f Works l (to_lock seen r g)
@@ -45,7 +45,7 @@ lock_ahead seen r f g l c k e = (c, k, works seen r g _, e)
 begin_ahead : (seen : ℕ) (r : Request) (f g : Follower) (l : ℕ) → g.session ≡ f.session → g.k ≡ f.k → g.last ≡ l → IsAhead f Works l (to_begin seen r g)
 begin_ahead seen r f g l c k e = cond_both _ (record g { stage = follower.Owned }) (to_lock seen r g) (IsAhead f Works l) (λ _. (c, k, refl, e)) (λ _. lock_ahead seen r f g l c k e)
 
-ahead : (p : Plan) (h : List Entry) (r : Request) (o : Op) (f : Follower) → IsAhead f (progress_after o (progress f.stage)) (last_after h o f) (next_with p h r o f)
+pub ahead : (p : Plan) (h : List Entry) (r : Request) (o : Op) (f : Follower) → IsAhead f (progress_after o (progress f.stage)) (last_after h o f) (next_with p h r o f)
 ahead p h r (op.SessionNew n) f = begin_ahead (seen_with f.session f.k h) r f (record f { last = last_of_session f.session h }) (last_of_session f.session h) refl refl refl
 ahead p h r (op.Owned n count) f = lock_ahead (seen_with f.session f.k h) r f (record f { owned = owned_after f.session (committed_of p h) }) f.last refl refl refl
 ahead p h r (op.LockOk n path) f = lock_ahead (seen_with f.session f.k h) r f (with_granted p h path f) f.last refl refl refl
@@ -107,7 +107,7 @@ telling_no_follower : (Q : ℕ → ℕ → ℕ → Progress → Type 0) (w : ℕ
 telling_no_follower Q w None = tt
 telling_no_follower Q w (Some x) = tt
 
-follower_start : (n : ℕ) (o : Op) (s : Start) (c k : ℕ) → started_in o ≡ Some s → s.function ≡ n → s.task ≡ Follows c k → o ≡ op.Follower n c k
+pub follower_start : (n : ℕ) (o : Op) (s : Start) (c k : ℕ) → started_in o ≡ Some s → s.function ≡ n → s.task ≡ Follows c k → o ≡ op.Follower n c k
 follower_start n o s c k e f t = grind arith
 
 pub whole_step : (p : Plan) (n : ℕ) (h : List Entry) (o : Op) (x : Place) (Q : ℕ → ℕ → ℕ → Progress → Type 0)

@@ -29,7 +29,7 @@ pub held_own : (n : ℕ) (h : List Entry) (g : Option Grant) → is_held_by n h 
 held_own n h None e = absurd (false≢true e)
 held_own n h (Some g) e = grind (arith, nat_tests)
 
-own_same : (n m : ℕ) (g : Option Grant) → IsOwn n g → IsOwn m g → n ≡ m
+pub own_same : (n m : ℕ) (g : Option Grant) → IsOwn n g → IsOwn m g → n ≡ m
 own_same n m None a b = absurd a
 own_same n m (Some g) a b = grind arith
 
@@ -47,7 +47,7 @@ commit_meets p a u t n s m path h l d x y e g o =
 lock_before : (n m : ℕ) (q path : PathNames) (ps : List PathNames) → (m ≡ n → ⊥) → has_path path (granted_in n (op.LockOk m q) ps) ≡ true → has_path path ps ≡ true
 lock_before n m q path ps f g = grind (arith, nat_tests)
 
-own_before : (n m : ℕ) (q path : PathNames) (h : List Entry) → (m ≡ n → ⊥) → IsOwn n (grant_in path (clock_of h) (op.LockOk m q) (last_grant path h)) → IsOwn n (last_grant path h)
+pub own_before : (n m : ℕ) (q path : PathNames) (h : List Entry) → (m ≡ n → ⊥) → IsOwn n (grant_in path (clock_of h) (op.LockOk m q) (last_grant path h)) → IsOwn n (last_grant path h)
 own_before n m q path h f g = grind (arith, nat_tests)
 
 meets_step : (p : Plan) (t n s m : ℕ) (path : PathNames) (h : List Entry) (o : Op) → IsHistory p h → IsDue p h o → Before t n s m path h
@@ -91,7 +91,7 @@ own_others : (n m : ℕ) (g : Option Grant) → IsOwn n g → n ≢ m → IsOthe
 own_others n m None a b = a
 own_others n m (Some g) a b = grind arith
 
-history_before : (p : Plan) (h more : List Entry) → IsHistory p (more ++ h) → IsHistory p h
+pub history_before : (p : Plan) (h more : List Entry) → IsHistory p (more ++ h) → IsHistory p h
 history_before p h [] l = l
 history_before p h (e ∷ more) l = history_before p h more l.0
 
@@ -140,7 +140,7 @@ pushed_before p s h (op.CommitOk a u) l d i =
 pushed_before p s h o l d i = grind (arith, committed_low p s h l)
 
 -- push t is uncommitted and its request is the session's next, push s is a committed one of the session
-abbrev BeforeInSession : ℕ → ℕ → ℕ → ℕ → ℕ → ℕ → ℕ → List Entry → Type 0
+abbrev pub BeforeInSession : ℕ → ℕ → ℕ → ℕ → ℕ → ℕ → ℕ → List Entry → Type 0
 BeforeInSession t n c k s m j h = IsPushOf t n c k h → IsPushOf s m c j h → is_committed s h ≡ true → settled_of c h + 1 ≡ k → s < t
 
 session_old : (p : Plan) (t n c k s m j : ℕ) (e : Entry) (h : List Entry) (b : Bool) → commits s e.op ≡ b → IsHistory p (e ∷ h) → BeforeInSession t n c k s m j h → IsPushOf t n c k h → IsPushOf s m c j h → IsPushOf s m c j (e ∷ h) → (b || is_committed s h) ≡ true → settled_of c (e ∷ h) + 1 ≡ k → s < t
@@ -169,7 +169,7 @@ session_step p t n c k s m j e h l i x z v w = by_old (nat_le t (pushes_of h)) r
         session_old p t n c k s m j e h (commits s e.op) refl l i a y z v w
     by_old false f = omega (arith, above t (pushes_of h) f, low)
 
-newest_in_a_session : (p : Plan) (t n c k s m j : ℕ) (h : List Entry) → IsHistory p h → BeforeInSession t n c k s m j h
+pub newest_in_a_session : (p : Plan) (t n c k s m j : ℕ) (h : List Entry) → IsHistory p h → BeforeInSession t n c k s m j h
 newest_in_a_session p t n c k s m j [] l = λ x y v w. absurd (false≢true v)
 newest_in_a_session p t n c k s m j (e ∷ h) l = session_step p t n c k s m j e h l (newest_in_a_session p t n c k s m j h l.0)
 

@@ -46,7 +46,7 @@ origin_there c k (x ∷ h) a b = there_step (sends_of c h) k (sent_in c h x.op) 
 stays_step : (s k : ℕ) (o x : Option Origin) → k ≤ s → origin_here s k o x ≡ x
 stays_step s k o x b = grind (arith, nat_tests)
 
-origin_stays : (c k : ℕ) (e : Entry) (h : List Entry) → k ≤ sends_of c h → origin_of c k (e ∷ h) ≡ origin_of c k h
+pub origin_stays : (c k : ℕ) (e : Entry) (h : List Entry) → k ≤ sends_of c h → origin_of c k (e ∷ h) ≡ origin_of c k h
 origin_stays c k e h b = stays_step (sends_of c h) k (sent_in c h e.op) (origin_of c k h) b
 
 -- a command that was sent is a write
@@ -99,7 +99,7 @@ pushed_stays : (p : Plan) (t n c k : ℕ) (e : Entry) (h : List Entry) → IsHis
 pushed_stays p t n c k e h l i =
     pushed_is p t n c k (e ∷ h) (record { push = i.push; pushed = push_stays p t e h i.push l i.pushed; function = i.function; task = task_stays p n e h (Follows c k) l i.task }) ∙ ap (pushed_request i.push.moment c k) (request_stays p c k e h (reached p n c k h l.0 i.task).2) ∙ sym (pushed_is p t n c k h i)
 
-its_push_forever : (p : Plan) (t n c k : ℕ) (h more : List Entry) → IsHistory p (more ++ h) → IsPushOf t n c k h → IsPushOf t n c k (more ++ h)
+pub its_push_forever : (p : Plan) (t n c k : ℕ) (h more : List Entry) → IsHistory p (more ++ h) → IsPushOf t n c k h → IsPushOf t n c k (more ++ h)
 its_push_forever p t n c k h [] l i = i
 its_push_forever p t n c k h (e ∷ more) l i = its_push_stays p t n c k e (more ++ h) l (its_push_forever p t n c k h more l.0 i)
 
@@ -116,7 +116,7 @@ filled_other : (done : List Applied) (s t : ℕ) (o : Option Pushed) → s ≢ t
 filled_other done s t None d = refl
 filled_other done s t (Some y) d = grind (arith, nat_tests)
 
-committed_other : (p : Plan) (t : ℕ) (h : List Entry) (o : Op) (done : List Applied) → commits t o ≡ false → applied_as t (committed_in p h o done) ≡ applied_as t done
+pub committed_other : (p : Plan) (t : ℕ) (h : List Entry) (o : Op) (done : List Applied) → commits t o ≡ false → applied_as t (committed_in p h o done) ≡ applied_as t done
 committed_other p t h (op.CommitOk n s) done e = filled_other done s t (pushed_of p s h) (grind (arith, nat_tests))
 committed_other p t h o done e = refl
 
@@ -136,7 +136,7 @@ pub committed_is_filled : CommittedIsFilled
 committed_is_filled p t [] l c = absurd (false≢true c)
 committed_is_filled p t (e ∷ h) l c = filled_step p t e h (commits t e.op) refl l (committed_is_filled p t h l.0) c
 
-tx_is : (t : ℕ) (done : List Applied) (a : Applied) → applied_as t done ≡ Some a → a.tx ≡ t
+pub tx_is : (t : ℕ) (done : List Applied) (a : Applied) → applied_as t done ≡ Some a → a.tx ≡ t
 tx_is t [] a e = absurd (grind arith)
 tx_is t (b ∷ done) a e = grind (arith, nat_tests, tx_is t done a)
 
@@ -144,7 +144,7 @@ unfilled_step : (p : Plan) (t : ℕ) (e : Entry) (h : List Entry) (a : Applied) 
 unfilled_step p t e h a true f i c = refl
 unfilled_step p t e h a false f i c = i (sym (committed_other p t h e.op (committed_of p h) f) ∙ c)
 
-was_committed : (p : Plan) (t : ℕ) (h : List Entry) (a : Applied) → committed_as p t h ≡ Some a → is_committed t h ≡ true
+pub was_committed : (p : Plan) (t : ℕ) (h : List Entry) (a : Applied) → committed_as p t h ≡ Some a → is_committed t h ≡ true
 was_committed p t [] a c = absurd (grind arith)
 was_committed p t (e ∷ h) a c = unfilled_step p t e h a (commits t e.op) refl (was_committed p t h a) c
 

@@ -1,5 +1,6 @@
 pub mod Closing
 pub mod Due
+pub mod Fitting
 pub mod Functions
 pub mod Growing
 pub mod Knowing
@@ -7,8 +8,15 @@ pub mod LeaderLane
 pub mod Locking
 pub mod Losing
 pub mod Losses
+pub mod Numbered
+pub mod Numbering
 pub mod Progress
+pub mod Publishing
 pub mod Pushes
+pub mod Refusing
 pub mod Requests
 pub mod Rising
+pub mod Seeing
+pub mod Sessions
 pub mod Settled
+pub mod Stamping

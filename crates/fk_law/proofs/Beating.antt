@@ -1,0 +1,254 @@
+-- The heartbeats of a schedule are of clients.
+use Rattle.std.specs.Prelude.{◌==◌}
+use Rattle.std.proofs.Common.{ℕ, ◌+◌, ◌++◌, Bool, true, false, List, [], ◌∷◌, sym, ap, subst, arith, Option, Some, None}
+use Rattle.std.proofs.lemmas.Bool.{cond_both}
+use Rattle.std.proofs.lemmas.Bool.Decides.{nat_tests}
+use Rattle.fk_tree.specs.Sorted.{in_path_order}
+use Rattle.fk_print.specs.declared.entry.Entry.{Entry}
+use Rattle.fk_print.specs.declared.event.Event.{Event}
+use Rattle.fk_print.specs.declared.event.Event.TheVariants as event
+use Rattle.fk_print.specs.declared.op.Op.{Op}
+use Rattle.fk_print.specs.declared.op.Op.TheVariants as op
+use Rattle.fk_script.specs.declared.deployment.Turn.{Turn}
+use Rattle.fk_script.specs.declared.deployment.Turn.TheVariants as turn
+use Rattle.fk_spec.specs.Plan.{Plan, Ask, Want, Unfit, Writes, Reads, asked, plan_of}
+use Rattle.fk_spec.specs.Start.{Task, Follows, Leads, Notifies, Probes, Push, starts_of, task_of, push_of, or_else}
+use Rattle.fk_spec.specs.Locks as locks
+use Rattle.fk_spec.specs.Locks.{granted, first_passed}
+use Rattle.fk_spec.specs.Settling.{settled_of}
+use Rattle.fk_spec.specs.Lanes.{session_head, leader_head, watch_head, Message, inbox_of}
+use Rattle.fk_spec.specs.Follower.{Follower, follower_op, session_op, lock_op, commit_op, commit_locked, refuse_op, expire_op, lost_op, ack_op}
+use Rattle.fk_spec.specs.Follower as follower
+use Rattle.fk_spec.specs.Leader.{leader_op, of_push, for_push, for_task}
+use Rattle.fk_spec.specs.Leader as leader
+use Rattle.fk_spec.specs.Teller.{teller_op}
+use Rattle.fk_spec.specs.Teller as teller
+use Rattle.fk_spec.specs.Heartbeat.{beat_op}
+use Rattle.fk_spec.specs.Heartbeat as heartbeat
+use Rattle.fk_spec.specs.Function.{Place, Absent, Following, Leading, Telling, Beating, place_of, function_op, fault_op, in_flight}
+use Rattle.fk_spec.specs.Client.{Client, Sent, Reading, client_op, client_of, failed_op, pong_or, take_or, take_op, look_or, look_sent_or, look_op, watch_or, register_asked, next_command_op, begin_op, may_begin}
+use Rattle.fk_spec.specs.Next.{IsHistory, next_op, follow_op, lead_op, tell_op, crash_op}
+use Rattle.fk_spec.specs.Schedule.{crashes, drain_begin, is_idle, step_of_first, lead_where, tell_where, deliver_where, deliver_first, client_first, next_of_drain, Plays, Empties, Emptied, Goes, Drains, TakesTurns}
+use Rattle.fk_law.specs.Sessions.{BeatsAClient, BeatsClients, IsBeatOfAClient, TurnsBeatClients, ScheduledBeatsClients}
+
+-- Operations that start no heartbeat. -----------------------------------------------------------------
+
+abbrev NoBeat : Op → Type 0
+NoBeat (op.Beat n c) = ⊥
+NoBeat _ = Unit {0}
+
+locked_none : (n t : ℕ) (o : Option locks.Passed) → NoBeat (commit_locked n t o)
+locked_none n t None = tt
+locked_none n t (Some x) = tt
+
+commit_none : (h : List Entry) (n t m c k : ℕ) → NoBeat (commit_op h n t m c k)
+commit_none h n t m c k = cond_both (settled_of c h + 1 == k) (commit_locked n t (first_passed m h (in_path_order (granted m h)))) (op.CommitSettled n t (settled_of c h)) NoBeat (λ _. locked_none n t _) (λ _. tt)
+
+ack_none : (n own : ℕ) (o : Option ℕ) → NoBeat (ack_op n own o)
+ack_none n own o = grind (arith, nat_tests)
+
+session_none : (p : Plan) (h : List Entry) (n c k : ℕ) → NoBeat (session_op p h n c k)
+session_none p h n c k = grind (arith, nat_tests)
+
+refuse_none : (p : Plan) (h : List Entry) (n : ℕ) (f : Follower) (s : follower.Stage) → NoBeat (follower_op p h n f s)
+refuse_none p h n f follower.Session = session_none p h n f.session f.k
+refuse_none p h n f (follower.Commit t) = commit_none h n t n f.session f.k
+refuse_none p h n f follower.Ack = ack_none n f.k (session_head f.session h)
+refuse_none p h n f s = grind (arith, nat_tests)
+
+task_none : (o : Option Task) (g : ℕ → ℕ → Op) → ((c k : ℕ) → NoBeat (g c k)) → NoBeat (for_task o g)
+task_none None g f = tt
+task_none (Some (Follows c k)) g f = f c k
+task_none (Some (Leads t)) g f = tt
+task_none (Some (Notifies w)) g f = tt
+task_none (Some (Probes c)) g f = tt
+
+push_none : (h : List Entry) (o : Option Push) (g : ℕ → ℕ → ℕ → Op) → ((n c k : ℕ) → NoBeat (g n c k)) → NoBeat (for_push h o g)
+push_none h None g f = tt
+push_none h (Some x) g f = task_none (task_of x.function h) (λ c k. g x.function c k) (λ c k. f x.function c k)
+
+leader_none : (p : Plan) (h : List Entry) (n t : ℕ) (s : leader.Stage) → NoBeat (leader_op p h n t s)
+leader_none p h n t leader.Commit = push_none h (push_of t h) (λ m c k. commit_op h n t m c k) (λ m c k. commit_none h n t m c k)
+leader_none p h n t leader.Reply = push_none h (push_of t h) (λ m c k. op.Reply n c k) (λ m c k. tt)
+leader_none p h n t leader.Ack = ack_none n t (leader_head h)
+leader_none p h n t s = grind (arith, nat_tests)
+
+teller_none : (h : List Entry) (n w t : ℕ) (s : teller.Stage) → NoBeat (teller_op h n w t s)
+teller_none h n w t teller.Ack = ack_none n w (watch_head h)
+teller_none h n w t s = tt
+
+beat_none : (p : Plan) (h : List Entry) (n c : ℕ) (s : heartbeat.Stage) → NoBeat (beat_op p h n c s)
+beat_none p h n c s = grind (arith, nat_tests)
+
+function_none : (p : Plan) (h : List Entry) (n : ℕ) (x : Place) → NoBeat (function_op p h n x)
+function_none p h n Absent = tt
+function_none p h n (Following f) = refuse_none p h n f f.stage
+function_none p h n (Leading t s) = leader_none p h n t s
+function_none p h n (Telling w t s) = teller_none h n w t s
+function_none p h n (Beating c s) = beat_none p h n c s
+
+-- Clients. --------------------------------------------------------------------------------------------
+
+look_none : (p : Plan) (h : List Entry) (c i : ℕ) (held : List ℕ) (number : ℕ) → NoBeat (look_op p c h i held number)
+look_none p h c i held number = grind (arith, nat_tests)
+
+look_sent_none : (p : Plan) (h : List Entry) (c : ℕ) (x : Client) (ss : List Sent) (o : Op) → NoBeat o → NoBeat (look_sent_or p c h x ss o)
+look_sent_none p h c x [] o d = d
+look_sent_none p h c x (s ∷ ss) o d = grind (arith, look_none p h c s.command x.held)
+
+look_or_none : (p : Plan) (h : List Entry) (c : ℕ) (x : Client) (r : Option Reading) (o : Op) → NoBeat o → NoBeat (look_or p c h x r o)
+look_or_none p h c x None o d = look_sent_none p h c x x.sent o d
+look_or_none p h c x (Some r) o d = grind (arith, nat_tests, look_sent_none p h c x x.sent o d)
+
+register_none : (p : Plan) (h : List Entry) (c i number : ℕ) (a : Option Ask) → NoBeat (register_asked p c h i number a)
+register_none p h c i number a = grind (arith, nat_tests)
+
+watch_none : (p : Plan) (h : List Entry) (c : ℕ) (x : Client) (r : Option Reading) (o : Op) → NoBeat o → NoBeat (watch_or p c h x r o)
+watch_none p h c x None o d = d
+watch_none p h c x (Some r) o d = register_none p h c _ _ _
+
+begin_none : (p : Plan) (h : List Entry) (c i : ℕ) (closed : Bool) (w : Want) → NoBeat (begin_op p c i h closed w)
+begin_none p h c i closed Unfit = tt
+begin_none p h c i true (Writes r) = tt
+begin_none p h c i false (Writes r) = tt
+begin_none p h c i true (Reads q watch) = tt
+begin_none p h c i false (Reads q watch) = tt
+
+next_command_none : (p : Plan) (h : List Entry) (c : ℕ) (x : Client) (a : Option Ask) → NoBeat (next_command_op p c h x a)
+next_command_none p h c x None = tt
+next_command_none p h c x (Some a) = cond_both (may_begin p c a x.sent) (begin_op p c (x.begun + 1) h x.closed a.want) op.Idle NoBeat (λ _. begin_none p h c (x.begun + 1) x.closed a.want) (λ _. tt)
+
+message_none : (c : ℕ) (m : Message) → NoBeat (take_op c m)
+message_none c m = grind arith
+
+take_none : (c : ℕ) (ms : List Message) (o : Op) → NoBeat o → NoBeat (take_or c ms o)
+take_none c [] o d = d
+take_none c (m ∷ ms) o d = message_none c m
+
+pong_none : (c : ℕ) (pings : List ℕ) (o : Op) → NoBeat o → NoBeat (pong_or c pings o)
+pong_none c [] o d = d
+pong_none c (n ∷ ns) o d = tt
+
+client_none : (p : Plan) (h : List Entry) (c : ℕ) → NoBeat (client_op p c h)
+client_none p h c =
+    let x = client_of p c h in
+    pong_none c x.owed _ (take_none c (inbox_of p c h) _ (look_or_none p h c x x.reading _ (watch_none p h c x x.reading _ (next_command_none p h c x (asked p c (x.begun + 1))))))
+
+failed_none : (o : Op) → NoBeat o → NoBeat (failed_op o)
+failed_none o d = grind arith
+
+-- Entries. --------------------------------------------------------------------------------------------
+
+none_beats : (o : Op) → NoBeat o → BeatsAClient o
+none_beats (op.Beat n c) d = absurd d
+none_beats o d = tt
+
+follow_none : (n c : ℕ) (o : Option ℕ) → NoBeat (follow_op n c o)
+follow_none n c None = tt
+follow_none n c (Some k) = tt
+
+lead_none : (n : ℕ) (o : Option ℕ) → NoBeat (lead_op n o)
+lead_none n None = tt
+lead_none n (Some t) = tt
+
+tell_none : (n : ℕ) (o : Option ℕ) → NoBeat (tell_op n o)
+tell_none n None = tt
+tell_none n (Some w) = tt
+
+event_beats : (p : Plan) (h : List Entry) (v : Event) → IsBeatOfAClient v → BeatsAClient (next_op p h v)
+event_beats p h (event.Client c) i = none_beats (next_op p h (event.Client c)) (client_none p h c)
+event_beats p h (event.Deliver c) i = none_beats (next_op p h (event.Deliver c)) (follow_none (starts_of h + 1) c (session_head c h))
+event_beats p h event.Leader i = none_beats (next_op p h event.Leader) (lead_none (starts_of h + 1) (leader_head h))
+event_beats p h event.Watch i = none_beats (next_op p h event.Watch) (tell_none (starts_of h + 1) (watch_head h))
+event_beats p h (event.Beat c) i = i
+event_beats p h (event.Step n) i = none_beats (next_op p h (event.Step n)) (function_none p h n (place_of p n h))
+event_beats p h (event.Crash n) i = none_beats (next_op p h (event.Crash n)) (crash_none (place_of p n h))
+  where
+    crash_none : (x : Place) → NoBeat (crash_op n x)
+    crash_none Absent = tt
+    crash_none x = tt
+event_beats p h (event.Fail n) i = none_beats (next_op p h (event.Fail n)) (fault_none (place_of p n h))
+  where
+    fault_none : (x : Place) → NoBeat (fault_op n x)
+    fault_none Absent = tt
+    fault_none x = tt
+event_beats p h (event.FailClient c) i = none_beats (next_op p h (event.FailClient c)) (failed_none (client_op p c h) (client_none p h c))
+event_beats p h (event.Clock m) i = tt
+
+-- the beats of these entries' events are of clients
+abbrev EventsBeat : List Entry → Type 0
+EventsBeat [] = Unit {0}
+EventsBeat (e ∷ h) = IsBeatOfAClient e.event × EventsBeat h
+
+entries_beat : (p : Plan) (h : List Entry) → IsHistory p h → EventsBeat h → BeatsClients h
+entries_beat p [] l i = tt
+entries_beat p (e ∷ h) l i = (entries_beat p h l.0 i.1, subst BeatsAClient (sym (ap (λ x. x.op) l.1)) (event_beats p h e.event i.0))
+
+-- Schedules. ------------------------------------------------------------------------------------------
+
+abbrev AllBeat : List Event → Type 0
+AllBeat [] = Unit {0}
+AllBeat (v ∷ vs) = IsBeatOfAClient v × AllBeat vs
+
+plays_beat : (vs : List Event) (h k : List Entry) → AllBeat vs → EventsBeat h → Plays vs h k → EventsBeat k
+plays_beat [] h k a i e = subst EventsBeat e i
+plays_beat (v ∷ vs) h k a i q = plays_beat vs (q.0 ∷ h) k a.1 (subst IsBeatOfAClient (sym q.1) a.0, i) q.2
+
+crashes_beat : (ns : List ℕ) (m : ℕ) → AllBeat (crashes ns ++ event.Clock m ∷ [])
+crashes_beat [] m = (tt, tt)
+crashes_beat (n ∷ ns) m = (tt, crashes_beat ns m)
+
+-- an event that isn't a beat
+abbrev IsSteady : Option Event → Type 0
+IsSteady None = Unit {0}
+IsSteady (Some v) = IsBeatOfAClient v
+
+either_steady : (o q : Option Event) → IsSteady o → IsSteady q → IsSteady (or_else o q)
+either_steady None q i j = j
+either_steady (Some v) q i j = i
+
+step_steady : (ns : List ℕ) → IsSteady (step_of_first ns)
+step_steady [] = tt
+step_steady (n ∷ ns) = tt
+
+lead_steady : (o : Option ℕ) → IsSteady (lead_where o)
+lead_steady None = tt
+lead_steady (Some t) = tt
+
+tell_steady : (o : Option ℕ) → IsSteady (tell_where o)
+tell_steady None = tt
+tell_steady (Some w) = tt
+
+deliver_steady : (c : ℕ) (o : Option ℕ) → IsSteady (deliver_where c o)
+deliver_steady c None = tt
+deliver_steady c (Some k) = tt
+
+deliver_first_steady : (xs : List (List Ask)) (c : ℕ) (h : List Entry) → IsSteady (deliver_first xs c h)
+deliver_first_steady [] c h = tt
+deliver_first_steady (x ∷ xs) c h = either_steady (deliver_where c (session_head c h)) _ (deliver_steady c (session_head c h)) (deliver_first_steady xs _ h)
+
+client_first_steady : (p : Plan) (xs : List (List Ask)) (c : ℕ) (h : List Entry) → IsSteady (client_first p xs c h)
+client_first_steady p [] c h = tt
+client_first_steady p (x ∷ xs) c h = cond_both (is_idle (client_op p c h)) (client_first p xs _ h) (Some (event.Client c)) IsSteady (λ _. client_first_steady p xs _ h) (λ _. tt)
+
+drain_steady : (p : Plan) (h : List Entry) → IsSteady (next_of_drain p h)
+drain_steady p h =
+    either_steady (step_of_first (in_flight p h)) _ (step_steady (in_flight p h))
+    (either_steady (tell_where (watch_head h)) _ (tell_steady (watch_head h))
+    (either_steady (lead_where (leader_head h)) _ (lead_steady (leader_head h))
+    (either_steady (deliver_first p.asks 1 h) (client_first p p.asks 1 h) (deliver_first_steady p.asks 1 h) (client_first_steady p p.asks 1 h))))
+
+empties_beat : (p : Plan) (h k : List Entry) → EventsBeat h → Empties p h k → EventsBeat k
+empties_beat p h k i (Emptied g e) = i
+empties_beat p h k i (Goes g m x e q) = empties_beat p (x ∷ g) m (subst IsSteady e (drain_steady p g), i) q
+
+drains_beat : (p : Plan) (h k : List Entry) → EventsBeat h → Drains p h k → EventsBeat k
+drains_beat p h k i d = empties_beat p d.begun k (plays_beat (drain_begin p h) h d.begun (crashes_beat (in_flight p h) _) i d.begins) d.empties
+
+turns_beat : (p : Plan) (ts : List Turn) (h k : List Entry) → TurnsBeatClients ts → EventsBeat h → TakesTurns p ts h k → EventsBeat k
+turns_beat p [] h k a i d = drains_beat p h k i d
+turns_beat p (turn.One v ∷ ts) h k a i d = turns_beat p ts d.0 k a.1 (plays_beat (v ∷ []) h d.0 (a.0, tt) i d.1) d.2
+turns_beat p (turn.Drain ∷ ts) h k a i d = turns_beat p ts d.0 k a (drains_beat p h d.0 i d.1) d.2
+
+pub scheduled_beats_clients : ScheduledBeatsClients
+scheduled_beats_clients d h a l s = entries_beat (plan_of d) h l (turns_beat (plan_of d) d.turns [] h a tt s)
