@@ -6,3 +6,4 @@ pub mod Said
 pub mod Services
 pub mod Standing
 pub mod Sweeping
+pub mod Tried

@@ -11,5 +11,7 @@ mod state;
 mod stepping;
 mod sweeping;
 mod telling;
+#[cfg(test)]
+mod tests;
 
 pub use leader::Leader;
