@@ -3,6 +3,7 @@ use Rattle.std.proofs.Common.{◌≡◌, ◌<◌, ◌≤◌, ℕ, Bool, true, fa
 use Rattle.std.specs.Prelude.{nat_lt, IfOk, ⊤}
 use Rattle.std.specs.FinMap.{nat_cmp-IsAntisymmetric}
 use Rattle.std.proofs.lemmas.Bool.Decides.{nat_tests}
+use Rattle.std.proofs.lemmas.Bool.{true≢false}
 use Rattle.std.proofs.lemmas.Cmp.{nat_cmp_total}
 use Rattle.fk_base.specs.declared.memory.NoMemory.{NoMemory}
 use Rattle.fk_tree.proofs.Rising.{same_rising}
@@ -22,7 +23,7 @@ use Rattle.fk_lead.specs.Meaning.{Meaning, Swept}
 use Rattle.fk_lead.specs.Next.{next_with}
 use Rattle.fk_lead.specs.Operation.{or_fault, sweep_op}
 use Rattle.fk_lead.specs.Said.{sweep_by, swept_by}
-use Rattle.fk_lead.specs.Sweeping.{AreSwept, swept_at}
+use Rattle.fk_lead.specs.Sweeping.{AreSwept, IsSweepOf, swept_at}
 
 -- there is one list of what a push fired, and one epoch
 one_swept : (tx : ℕ) (fired : ℕ → Option Firing) (r s : Swept) → AreSwept tx fired r → AreSwept tx fired s → r ≡ s
@@ -69,12 +70,12 @@ listed w tx ts sweep.NoMemory i l = absurd l
 given : (w : Watches) (tx : ℕ) (ts : List Touch) (r : Sweep) (s : Swept) → IsSweep w tx ts r → lists r → AreSwept tx (swept_at tx ts w).fired s → (r ≡ sweep.NoMemory → ⊥) → swept_by r ≡ s
 given w tx ts r s i l g e = one_swept tx (swept_at tx ts w).fired (swept_by r) s (subst (λ m. AreSwept tx m.fired (swept_by r)) (sweep_after w tx ts r i e) (listed w tx ts r i l)) g
 
-pub sweep_said : (w : Watches) (n tx : ℕ) (ts : List Touch) (r : Sweep) (s : Swept) → IsSweep w tx ts r → (r ≡ sweep.NoMemory → ⊥) → AreSwept tx (swept_at tx ts w).fired s → sweep_by n tx r ≡ or_fault w.armed n word.Sweep (sweep_op w n tx s.fired)
-sweep_said w n tx ts (sweep.Fired fs ids) s i e g = fired w.armed (nat_lt w.swept tx) i.0 (grind (arith, nat_tests)) (given w tx ts (sweep.Fired fs ids) s i tt g e)
+pub sweep_said : (w : Watches) (n tx : ℕ) (ts : List Touch) (r : Sweep) (s : Swept) → IsSweep w tx ts r → (r ≡ sweep.NoMemory → ⊥) → IsSweepOf tx ts w s → sweep_by n tx r ≡ or_fault w.armed n word.Sweep (sweep_op w n tx s.fired)
+sweep_said w n tx ts (sweep.Fired fs ids) s i e g = fired w.armed (nat_lt w.swept tx) i.0 (grind (arith, nat_tests)) (given w tx ts (sweep.Fired fs ids) s i tt (g i.0) e)
   where
     fired : (a b : Bool) → a ≡ false → b ≡ true → swept_by (sweep.Fired fs ids) ≡ s → op.SweepOk n tx (length fs) ≡ cond a (op.Fault n word.Sweep) (cond b (op.SweepOk n tx (length s.fired)) (op.SweepMiss n tx w.swept (length s.fired)))
     fired a b f g h = rw (f, g, ← h) refl
-sweep_said w n tx ts (sweep.Already k fs ids) s i e g = late w.armed (nat_lt w.swept tx) i.0 (grind (arith, nat_tests)) (given w tx ts (sweep.Already k fs ids) s i tt g e) i.2
+sweep_said w n tx ts (sweep.Already k fs ids) s i e g = late w.armed (nat_lt w.swept tx) i.0 (grind (arith, nat_tests)) (given w tx ts (sweep.Already k fs ids) s i tt (g i.0) e) i.2
   where
     late : (a b : Bool) → a ≡ false → b ≡ false → swept_by (sweep.Already k fs ids) ≡ s → k ≡ w.swept → op.SweepMiss n tx k (length fs) ≡ cond a (op.Fault n word.Sweep) (cond b (op.SweepOk n tx (length s.fired)) (op.SweepMiss n tx w.swept (length s.fired)))
     late a b f g h x = rw (f, g, ← h, x) refl
@@ -85,9 +86,9 @@ sweep_said w n tx ts sweep.Failed s i e g = failing w.armed i
 sweep_said w n tx ts sweep.NoMemory s i e g = absurd (e refl)
 
 -- the leader keeps what the watches gave
-pub sweep_next : (w : Watches) (n tx : ℕ) (ts : List Touch) (r : Sweep) (s : Swept) (m : Meaning) → IsSweep w tx ts r → (r ≡ sweep.NoMemory → ⊥) → AreSwept tx (swept_at tx ts w).fired s → next_with (swept_by r) (sweep_by n tx r) m ≡ next_with s (sweep_by n tx r) m
-sweep_next w n tx ts (sweep.Fired fs ids) s m i e g = ap (λ x. next_with x (op.SweepOk n tx (length fs)) m) (given w tx ts (sweep.Fired fs ids) s i tt g e)
-sweep_next w n tx ts (sweep.Already k fs ids) s m i e g = ap (λ x. next_with x (op.SweepMiss n tx k (length fs)) m) (given w tx ts (sweep.Already k fs ids) s i tt g e)
+pub sweep_next : (w : Watches) (n tx : ℕ) (ts : List Touch) (r : Sweep) (s : Swept) (m : Meaning) → IsSweep w tx ts r → (r ≡ sweep.NoMemory → ⊥) → IsSweepOf tx ts w s → next_with (swept_by r) (sweep_by n tx r) m ≡ next_with s (sweep_by n tx r) m
+sweep_next w n tx ts (sweep.Fired fs ids) s m i e g = ap (λ x. next_with x (op.SweepOk n tx (length fs)) m) (given w tx ts (sweep.Fired fs ids) s i tt (g i.0) e)
+sweep_next w n tx ts (sweep.Already k fs ids) s m i e g = ap (λ x. next_with x (op.SweepMiss n tx k (length fs)) m) (given w tx ts (sweep.Already k fs ids) s i tt (g i.0) e)
 sweep_next w n tx ts sweep.Failed s m i e g = refl
 sweep_next w n tx ts sweep.NoMemory s m i e g = absurd (e refl)
 
@@ -98,13 +99,23 @@ both_ok (Ok x) p q f = f x p q
 both_ok (Err e) p q f = tt
 
 pub swept_op : (w : Watches) (n tx : ℕ) (us ts : List Touch) (r : Sweep) (o : Result Op NoMemory) → us ≡ ts → IsSweep w tx us r → IfOk o (λ x. r ≡ sweep.NoMemory → ⊥) → IfOk o (λ x. x ≡ sweep_by n tx r)
-    → (s : Swept) → AreSwept tx (swept_at tx ts w).fired s → IfOk o (λ x. x ≡ or_fault w.armed n word.Sweep (sweep_op w n tx s.fired))
+    → (s : Swept) → IsSweepOf tx ts w s → IfOk o (λ x. x ≡ or_fault w.armed n word.Sweep (sweep_op w n tx s.fired))
 swept_op w n tx us ts r o e i some h s g = both_ok o some h (λ x a b. b ∙ sweep_said w n tx ts r s (subst (λ t. IsSweep w tx t r) e i) a g)
 
 pub swept_leader : (w : Watches) (n tx : ℕ) (us ts : List Touch) (r : Sweep) (o : Result Op NoMemory) (m l : Meaning) → us ≡ ts → IsSweep w tx us r → IfOk o (λ x. r ≡ sweep.NoMemory → ⊥) → IfOk o (λ x. l ≡ next_with (swept_by r) (sweep_by n tx r) m)
-    → (s : Swept) → AreSwept tx (swept_at tx ts w).fired s → IfOk o (λ x. l ≡ next_with s (or_fault w.armed n word.Sweep (sweep_op w n tx s.fired)) m)
+    → (s : Swept) → IsSweepOf tx ts w s → IfOk o (λ x. l ≡ next_with s (or_fault w.armed n word.Sweep (sweep_op w n tx s.fired)) m)
 swept_leader w n tx us ts r o m l e i some h s g =
     both_ok o some h (λ x a b. let j : IsSweep w tx ts r = subst (λ t. IsSweep w tx t r) e i in b ∙ (sweep_next w n tx ts r s m j a g ∙ ap (λ y. next_with s y m) (sweep_said w n tx ts r s j a g)))
 
 pub swept_watches : (w v : Watches) (tx : ℕ) (us ts : List Touch) (r : Sweep) (o : Result Op NoMemory) → us ≡ ts → IsSweep w tx us r → v ≡ after_sweep w tx us r → IfOk o (λ x. r ≡ sweep.NoMemory → ⊥) → IfOk o (λ x. v ≡ swept_at tx ts w)
 swept_watches w v tx us ts r o e i h some = both_ok o some some (λ x a b. h ∙ (sweep_after w tx us r i a ∙ ap (λ t. swept_at tx t w) e))
+
+-- what the leader holds after it is what the watches gave
+kept : (w : Watches) (n tx : ℕ) (ts : List Touch) (r : Sweep) (m : Meaning) → IsSweep w tx ts r → (r ≡ sweep.NoMemory → ⊥) → IsSweepOf tx ts w (next_with (swept_by r) (sweep_by n tx r) m).swept
+kept w n tx ts (sweep.Fired fs ids) m i e a = subst (λ x. AreSwept tx x.fired (swept_by (sweep.Fired fs ids))) (sweep_after w tx ts (sweep.Fired fs ids) i e) (listed w tx ts (sweep.Fired fs ids) i tt)
+kept w n tx ts (sweep.Already k fs ids) m i e a = subst (λ x. AreSwept tx x.fired (swept_by (sweep.Already k fs ids))) (sweep_after w tx ts (sweep.Already k fs ids) i e) (listed w tx ts (sweep.Already k fs ids) i tt)
+kept w n tx ts sweep.Failed m i e a = absurd (true≢false (sym i ∙ a))
+kept w n tx ts sweep.NoMemory m i e a = absurd (e refl)
+
+pub swept_given : (w : Watches) (n tx : ℕ) (us ts : List Touch) (r : Sweep) (o : Result Op NoMemory) (m l : Meaning) → us ≡ ts → IsSweep w tx us r → IfOk o (λ x. r ≡ sweep.NoMemory → ⊥) → IfOk o (λ x. l ≡ next_with (swept_by r) (sweep_by n tx r) m) → IfOk o (λ x. IsSweepOf tx ts w l.swept)
+swept_given w n tx us ts r o m l e i some h = both_ok o some h (λ x a b. subst (λ y. IsSweepOf tx ts w y.swept) (sym b) (kept w n tx ts r m (subst (λ t. IsSweep w tx t r) e i) a))

@@ -1,5 +1,5 @@
 -- A leader's sweep.
-use Rattle.std.specs.Prelude.{ℕ, nat_lt, if◌then◌else◌, ⊤, List, Option}
+use Rattle.std.specs.Prelude.{◌≡◌, ℕ, nat_lt, false, if◌then◌else◌, ⊤, List, Option}
 use Rattle.fk_tree.specs.declared.change.Touch.{Touch}
 use Rattle.fk_spec.specs.Leader.{Stage}
 use Rattle.fk_spec.specs.Leader as stage
@@ -18,8 +18,12 @@ pub record AreSwept (tx : ℕ) (all : ℕ → Option Firing) (s : Swept) : Type 
   pub fired : AreFired tx all s.fired
   pub epoch : IsEpoch all s.epoch
 
+-- `s` is what a sweep gives where it doesn't fail: late or not, it gives what is fired after it
+abbrev pub IsSweepOf : ℕ → List Touch → Watches → Swept → Type 0
+IsSweepOf tx ts w s = w.armed ≡ false → AreSwept tx (swept_at tx ts w).fired s
+
 abbrev pub given_at : Watches → Meaning → Swept → Stage → Type 0
-given_at w m s stage.Sweep = AreSwept m.tx (swept_at m.tx (touches_of m) w).fired s
+given_at w m s stage.Sweep = IsSweepOf m.tx (touches_of m) w s
 given_at w m s stage.Commit = ⊤
 given_at w m s stage.Pending = ⊤
 given_at w m s stage.Drop = ⊤
@@ -31,7 +35,6 @@ given_at w m s stage.Done = ⊤
 given_at w m s stage.Ack = ⊤
 given_at w m s stage.Ended = ⊤
 
--- `s` is what these watches give a leader at its next operation. A sweep alone asks for it: late or not, it gets what
--- is fired after it.
+-- `s` is what these watches give a leader at its next operation; a sweep alone asks for it.
 abbrev pub IsGiven : Watches → Meaning → Swept → Type 0
 IsGiven w m s = given_at w m s m.stage

@@ -19,7 +19,7 @@ use fk_store::{Cond, Found, Table, Transact, Write};
 use std::alloc::Global;
 
 /// What becomes of finishing a push.
-#[derive(Clone, Copy, Debug, PartialEq, Eq)]
+#[derive(Drop)]
 pub enum Finish {
     Done,
     /// This push is done, which isn't below the one to finish.

@@ -33,6 +33,7 @@ impl Leader {
         requires { IsFit (T.meaning table.old) (post_of post.old) (leader_of self.old) }
         ensures op { (s : Swept) → IsGiven (watches_of watches.old) (leader_of self.old) s → IfOk result (λ o. o ≡ step_op (T.meaning table.old) (post_of post.old) (watches_of watches.old) (store_of user.old) s (leader_of self.old)) }
         ensures leader { (s : Swept) → IsGiven (watches_of watches.old) (leader_of self.old) s → OnOk result (leader_of self.new ≡ after_step (T.meaning table.old) (post_of post.old) (watches_of watches.old) (store_of user.old) s (leader_of self.old)) }
+        ensures given { OnOk result (IsGiven (watches_of watches.old) (leader_of self.old) (leader_of self.new).swept) }
         ensures table { OnOk result (T.meaning table.new ≡ table_after_step (T.meaning table.old) (leader_of self.old)) }
         ensures post { OnOk result (post_of post.new ≡ post_after_step (post_of post.old) (leader_of self.old)) }
         ensures watches { OnOk result (watches_of watches.new ≡ watches_after_step (watches_of watches.old) (leader_of self.old)) }

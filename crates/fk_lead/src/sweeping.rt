@@ -9,7 +9,7 @@ ghost use Rattle.fk_lead.specs.Next.{having_swept, next_with};
 ghost use Rattle.fk_lead.specs.Operation.{or_fault, sweep_op};
 ghost use Rattle.fk_lead.specs.Said.{sweep_by, swept_by};
 ghost use Rattle.fk_lead.specs.Standing.{leader_of};
-ghost use Rattle.fk_lead.specs.Sweeping.{AreSwept, swept_at};
+ghost use Rattle.fk_lead.specs.Sweeping.{IsSweepOf, swept_at};
 ghost use Rattle.fk_tree.specs.Touch.{edit_paths, edited_paths};
 
 use crate::leader::Leader;
@@ -48,8 +48,9 @@ impl Leader {
     /// It sweeps the watches for its push.
     #[tactic(auto, unfolding(crate::specs::Standing::leader_of))]
     pub(crate) fn sweep(&mut self, watches: &mut WatchTable) -> Result<Op, NoMemory>
-        ensures op { (s : Swept) → AreSwept self.old.tx (swept_at self.old.tx (touches_of (leader_of self.old)) (watches_of watches.old)).fired s → IfOk result (λ o. o ≡ or_fault (watches_of watches.old).armed self.old.inv word.Sweep (sweep_op (watches_of watches.old) self.old.inv self.old.tx s.fired)) }
-        ensures leader { (s : Swept) → AreSwept self.old.tx (swept_at self.old.tx (touches_of (leader_of self.old)) (watches_of watches.old)).fired s → OnOk result (leader_of self.new ≡ next_with s (or_fault (watches_of watches.old).armed self.old.inv word.Sweep (sweep_op (watches_of watches.old) self.old.inv self.old.tx s.fired)) (leader_of self.old)) }
+        ensures op { (s : Swept) → IsSweepOf self.old.tx (touches_of (leader_of self.old)) (watches_of watches.old) s → IfOk result (λ o. o ≡ or_fault (watches_of watches.old).armed self.old.inv word.Sweep (sweep_op (watches_of watches.old) self.old.inv self.old.tx s.fired)) }
+        ensures leader { (s : Swept) → IsSweepOf self.old.tx (touches_of (leader_of self.old)) (watches_of watches.old) s → OnOk result (leader_of self.new ≡ next_with s (or_fault (watches_of watches.old).armed self.old.inv word.Sweep (sweep_op (watches_of watches.old) self.old.inv self.old.tx s.fired)) (leader_of self.old)) }
+        ensures given { OnOk result (IsSweepOf self.old.tx (touches_of (leader_of self.old)) (watches_of watches.old) (leader_of self.new).swept) }
         ensures watches { OnOk result (watches_of watches.new ≡ swept_at self.old.tx (touches_of (leader_of self.old)) (watches_of watches.old)) }
     {
         let applied = self.applied()?;

@@ -1,5 +1,5 @@
 -- The sessions that the writes name exist where the request's own does.
-use Rattle.std.proofs.Common.{◌≡◌, ℕ, Bool, true, false, cond, ◌&&◌, List, [], ◌∷◌, ◌++◌, refl, sym, ◌∙◌, ap}
+use Rattle.std.proofs.Common.{◌≡◌, ℕ, Bool, true, false, cond, ◌&&◌, List, [], ◌∷◌, ◌++◌, refl}
 use Rattle.std.specs.Prelude.{is_some}
 use Rattle.fk_base.specs.Path.{PathNames}
 use Rattle.fk_tree.specs.Edit.{closes, effects}
@@ -50,7 +50,7 @@ fit_commit t tx x e =
     let release = release_writes (in_path_order x.paths) in
     fit_append t (changes ++ (write.AddPending x.session tx ∷ release)) (write.Settle x.session x.k (kept.Applied tx) ∷ close_writes x.session x.request)
     (fit_append t changes (write.AddPending x.session tx ∷ release) (fit_changes t tx x.moment (effects (applied_as tx x)))
-      (fit_pending t x.session tx release e (fit_releases t (in_path_order x.paths))))
+    (fit_pending t x.session tx release e (fit_releases t (in_path_order x.paths))))
     (fit_settle t x.session x.k (kept.Applied tx) (close_writes x.session x.request) e (fit_close t x.session x.request e))
 
 pub fit_refuse : (t : Meaning) (session k : ℕ) (o : Outcome) (ps : List PathNames) → is_some (t.sessions session) ≡ true → are_fit_writes t (refuse_writes session k o ps) ≡ true

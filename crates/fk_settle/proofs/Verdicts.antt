@@ -1,5 +1,5 @@
 -- The conditions of a transaction that settles a request, and what their first miss says.
-use Rattle.std.proofs.Common.{◌≡◌, ◌≤◌, ◌≢◌, ℕ, suc, ◌+◌, ◌-◌, Bool, true, false, cond, eqb, List, [], ◌∷◌, Option, Some, None, refl, sym, ◌∙◌, ap, arith}
+use Rattle.std.proofs.Common.{◌≡◌, ◌≤◌, ℕ, suc, ◌+◌, ◌-◌, Bool, true, false, cond, List, [], ◌∷◌, Option, Some, None, refl, sym, ◌∙◌, ap, arith}
 use Rattle.std.specs.Prelude.{is_some, ◌==◌}
 use Rattle.std.proofs.lemmas.Bool.Decides.{nat_tests}
 use Rattle.fk_base.specs.Path.{PathNames}
@@ -10,11 +10,10 @@ use Rattle.fk_store.specs.Meaning.{Meaning, called, lock_of}
 use Rattle.fk_store.specs.declared.answer.Transact.{Transact}
 use Rattle.fk_store.specs.declared.answer.Transact.TheVariants as transact
 use Rattle.fk_store.specs.declared.cond.Cond.{Cond}
-use Rattle.fk_store.specs.declared.cond.Cond.TheVariants as cond'
 use Rattle.fk_store.specs.declared.cond.Found.{Found}
 use Rattle.fk_store.specs.declared.cond.Found.TheVariants as found
 use Rattle.fk_store.specs.declared.write.Write.{Write}
-use Rattle.fk_settle.specs.Missing.{found_from, missed_as, passed_at, path_from}
+use Rattle.fk_settle.specs.Missing.{found_from, missed_as}
 use Rattle.fk_settle.specs.Held.{first_passed, passed_on}
 use Rattle.fk_settle.specs.Verdicts.{verdict_of, verdict_on}
 use Rattle.fk_store.specs.Writes.{all_written}

@@ -1,7 +1,6 @@
 -- The transactions that settle a request: what each needs of the table, and what it writes there.
 use Rattle.std.specs.Prelude.{ℕ, ◌-◌, if◌then◌else◌, List, [], ◌∷◌, ◌++◌, Option, Some, None}
 use Rattle.fk_base.specs.Path.{PathNames}
-use Rattle.fk_base.specs.declared.code.Code.{Code}
 use Rattle.fk_tree.specs.Edit.{closes, effects}
 use Rattle.fk_tree.specs.Sorted.{in_path_order}
 use Rattle.fk_tree.specs.declared.applied.Applied.{Applied}

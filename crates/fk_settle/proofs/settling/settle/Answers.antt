@@ -1,4 +1,4 @@
-use Rattle.std.proofs.Common.{◌≡◌, sym, ◌∙◌, ap}
+use Rattle.std.proofs.Common.{◌∙◌, ap}
 use Rattle.fk_store.specs.Conds.{are_fit_conds}
 use Rattle.fk_settle.proofs.Verdicts.{fit_conds}
 use Rattle.fk_settle.proofs.settling.settle.Goals as goal
