@@ -5,3 +5,4 @@ pub mod Finding
 pub mod Watching
 pub mod Wants
 pub mod Steps
+pub mod Trying

@@ -11,5 +11,6 @@ pub mod Services
 pub mod Shown
 pub mod Standing
 pub mod Told
+pub mod Tried
 pub mod Unready
 pub mod Wanted

@@ -13,6 +13,8 @@ mod registering;
 mod replying;
 mod stepping;
 mod taking;
+#[cfg(test)]
+mod tests;
 mod unanswered;
 mod want;
 
