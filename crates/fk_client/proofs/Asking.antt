@@ -1,5 +1,5 @@
 -- What is asked of a list of commands.
-use Rattle.std.proofs.Common.{◌≡◌, ◌<◌, ◌≤◌, ℕ, zero, suc, List, [], ◌∷◌, length, get_or, Bool, true, false, Option, Some, None, refl, arith}
+use Rattle.std.proofs.Common.{◌≡◌, ◌<◌, ◌≤◌, ℕ, zero, suc, List, [], ◌∷◌, length, get_or, true, Option, Some, None, refl, arith}
 use Rattle.std.specs.Prelude.{is_some}
 use Rattle.fk_script.specs.declared.command.Command.{Command}
 use Rattle.fk_spec.specs.Plan.{Ask, ask_of, asks_of, item_after}

@@ -1,17 +1,16 @@
 -- A read is told by its command.
 use Rattle.std.proofs.Common.{◌≡◌, ℕ, Bool, true, false, cond, List, [], ◌∷◌, Option, Some, None, refl, arith}
 use Rattle.std.specs.Prelude.{is_some}
-use Rattle.fk_base.specs.Path.{PathNames, is_root}
+use Rattle.fk_base.specs.Path.{PathNames}
 use Rattle.fk_tree.specs.declared.node.Node.{Node}
 use Rattle.fk_tree.specs.declared.request.Part.{Part}
-use Rattle.fk_tree.specs.declared.request.Query.{Query}
 use Rattle.fk_tree.specs.declared.request.Query.TheVariants as query
 use Rattle.fk_tree.specs.declared.request.Request.{Request}
 use Rattle.fk_tree.specs.declared.request.Request.TheVariants as request
 use Rattle.fk_script.specs.declared.command.Command.{Command}
 use Rattle.fk_script.specs.declared.command.Command.TheVariants as command
 use Rattle.fk_spec.specs.Client as spec
-use Rattle.fk_spec.specs.Plan.{Want, Unfit, Writes, Reads, at_path, is_small, parts_of, path_within, path_limit, want_delete, want_multi, want_of}
+use Rattle.fk_spec.specs.Plan.{Unfit, Writes, Reads, at_path, is_small, parts_of, path_within, path_limit, want_delete, want_multi, want_of}
 use Rattle.fk_client.specs.Answering.{sets_watch, shown_found}
 use Rattle.fk_client.specs.Meaning.{is_read}
 use Rattle.fk_client.specs.Shown.{shown_read}

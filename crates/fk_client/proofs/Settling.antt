@@ -1,5 +1,5 @@
 -- The command that has an outcome first, by its place.
-use Rattle.std.proofs.Common.{◌≡◌, ◌<◌, ◌≤◌, ℕ, suc, ◌+◌, Bool, true, false, cond, List, [], ◌∷◌, length, get_or, set, refl, ap, arith, add-one}
+use Rattle.std.proofs.Common.{◌≡◌, ◌<◌, ◌≤◌, ℕ, ◌+◌, Bool, true, false, cond, List, [], ◌∷◌, length, get_or, set, refl, ap, arith, add-one}
 use Rattle.std.specs.Prelude.{◌==◌, ◌&&◌}
 use Rattle.fk_client.specs.declared.unanswered.Outcome.{Outcome}
 use Rattle.fk_client.specs.declared.unanswered.Unanswered.{Unanswered}

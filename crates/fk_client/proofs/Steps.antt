@@ -1,5 +1,5 @@
 -- The operation of a step, case by case.
-use Rattle.std.proofs.Common.{◌≡◌, ◌+◌, ℕ, Bool, true, false, cond, List, [], ◌∷◌, Option, Some, None, refl, sym, ◌∙◌, ap, arith}
+use Rattle.std.proofs.Common.{◌≡◌, ◌+◌, ℕ, Bool, true, false, cond, List, [], ◌∷◌, Option, Some, None, refl, ◌∙◌, ap, arith}
 use Rattle.std.specs.Prelude.{is_some, nat_lt}
 use Rattle.fk_print.specs.declared.op.Op.{Op}
 use Rattle.fk_print.specs.declared.op.Op.TheVariants as op
@@ -13,11 +13,11 @@ use Rattle.fk_user.specs.Meaning as user
 use Rattle.fk_watch.specs.Meaning.{Watches}
 use Rattle.fk_wire.specs.declared.message.Tell.{Tell}
 use Rattle.fk_wire.specs.declared.message.Tell.TheVariants as tell
-use Rattle.fk_spec.specs.Client.{failed_op, first_held, held_op}
+use Rattle.fk_spec.specs.Client.{first_held, held_op}
 use Rattle.fk_spec.specs.Plan.{Ask, Want, Unfit, Writes, Reads}
 use Rattle.fk_client.specs.Looking.{look_op, target_of}
 use Rattle.fk_client.specs.Meaning.{Meaning, next_asked, number_read}
-use Rattle.fk_client.specs.Operation.{calm_op, failed_if, is_armed, next_command_op, or_failed, register_asked, register_for, register_op, step_op, take_op, watch_or}
+use Rattle.fk_client.specs.Operation.{calm_op, failed_if, is_armed, next_command_op, or_failed, register_asked, register_for, step_op, take_op, watch_or}
 use Rattle.fk_client.specs.Registering.{watch_number}
 use Rattle.fk_client.specs.Told.{IsTold}
 use Rattle.fk_client.specs.declared.looking.Target.{Target}

@@ -1,5 +1,5 @@
 -- A step that a test makes is one that it may make, and leaves room for the next one.
-use Rattle.std.proofs.Common.{◌≡◌, ◌<◌, ◌≤◌, ◌^◌, ◌-◌, ℕ, ◌+◌, Bool, true, false, cond, List, Option, Some, None, refl, subst, sym, arith}
+use Rattle.std.proofs.Common.{◌≡◌, ◌<◌, ◌≤◌, ◌^◌, ◌-◌, ℕ, ◌+◌, true, false, cond, List, Option, Some, None, refl, subst, sym, arith}
 use Rattle.std.specs.Prelude.{◌==◌, is_some}
 use Rattle.std.proofs.lemmas.Bool.Decides.{nat_tests}
 use Rattle.fk_tree.proofs.Order.{by_test}
@@ -65,6 +65,7 @@ pushed n session bytes q r = record {
   where
     one : {g : ℕ} → g ≤ n → g + 1 ≤ n + 1
     one l = omega arith
+
     later : {g : ℕ} → g ≤ n → g ≤ n + 1
     later l = omega arith
 

@@ -1,5 +1,5 @@
 -- What a read comes to, told by its command alone where its path is one; and what a look shows.
-use Rattle.std.specs.Prelude.{ℕ, nat_lt, Bool, true, false, if◌then◌else◌, ◌&&◌, List, Option, Some, None}
+use Rattle.std.specs.Prelude.{ℕ, nat_lt, Bool, false, if◌then◌else◌, ◌&&◌, List, Option, Some, None}
 use Rattle.fk_base.specs.declared.code.Code.TheVariants as code
 use Rattle.fk_tree.specs.Tree.{stat_of}
 use Rattle.fk_tree.specs.declared.node.Node.{Node}

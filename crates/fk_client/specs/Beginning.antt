@@ -4,7 +4,6 @@ use Rattle.fk_base.specs.Path.{PathNames}
 use Rattle.fk_queue.specs.Meaning as post
 use Rattle.fk_queue.specs.declared.lane.Lane.TheVariants as lane
 use Rattle.fk_tree.specs.Ask.{path_asked}
-use Rattle.fk_tree.specs.declared.request.Query.{Query}
 use Rattle.fk_tree.specs.declared.request.Request.{Request}
 use Rattle.fk_user.specs.Meaning as user
 use Rattle.fk_wire.specs.SentText.{sent_text}

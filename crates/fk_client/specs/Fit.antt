@@ -1,5 +1,5 @@
 -- What an operation of a client needs.
-use Rattle.std.specs.Prelude.{◌≡◌, ℕ, ◌<◌, ◌-◌, ◌^◌, true, false, ⊤, Option, Some, None, is_some}
+use Rattle.std.specs.Prelude.{◌≡◌, ◌<◌, ◌-◌, ◌^◌, true, false, ⊤, Option, Some, None, is_some}
 use Rattle.fk_queue.specs.Lanes.{is_session}
 use Rattle.fk_queue.specs.Meaning as post
 use Rattle.fk_queue.specs.declared.lane.Lane.TheVariants as lane

@@ -1,7 +1,6 @@
 -- What a client means: its session, what its commands ask, the greatest number that it has printed, and what it
 -- holds.
-use Rattle.std.specs.Prelude.{ℕ, Bool, true, false, if◌then◌else◌, not, ◌&&◌, List, [], ◌∷◌, length, max, Option, Some, None}
-use Rattle.fk_print.specs.declared.line.Verb.{Verb}
+use Rattle.std.specs.Prelude.{ℕ, Bool, true, false, if◌then◌else◌, not, ◌&&◌, List, [], ◌∷◌, max, Option, Some, None}
 use Rattle.fk_spec.specs.Client.{is_write}
 use Rattle.fk_spec.specs.Plan.{Ask, Want, Unfit, Writes, Reads, item_after, nth}
 use Rattle.fk_client.specs.declared.reading.Reading.{Reading}

@@ -1,5 +1,5 @@
 -- The operation that a client makes next.
-use Rattle.std.specs.Prelude.{◌≡◌, ℕ, ◌+◌, nat_lt, Bool, true, false, if◌then◌else◌, not, List, [], ◌∷◌, Option, Some, None}
+use Rattle.std.specs.Prelude.{ℕ, ◌+◌, nat_lt, Bool, false, if◌then◌else◌, Option, Some, None}
 use Rattle.fk_base.specs.Path.{PathNames}
 use Rattle.fk_tree.specs.Ask.{path_asked}
 use Rattle.fk_tree.specs.Watch.{kind_asked}

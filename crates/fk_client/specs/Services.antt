@@ -1,6 +1,5 @@
 -- What the services mean after an operation of a client. Each operation uses one of them.
-use Rattle.std.specs.Prelude.{ℕ, if◌then◌else◌, List, [], ◌∷◌, Option, Some, None}
-use Rattle.fk_base.specs.Path.{PathNames}
+use Rattle.std.specs.Prelude.{ℕ, List, Option, Some, None}
 use Rattle.fk_tree.specs.Ask.{path_asked}
 use Rattle.fk_tree.specs.Watch.{kind_asked}
 use Rattle.fk_tree.specs.declared.request.Request.{Request}

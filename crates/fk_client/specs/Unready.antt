@@ -1,5 +1,5 @@
 -- The commands that a client sent and didn't answer: which of them is printed when, and what it is told of them.
-use Rattle.std.specs.Prelude.{ℕ, ◌+◌, ◌==◌, Bool, true, false, if◌then◌else◌, ◌&&◌, List, [], ◌∷◌, ◌++◌, Option, Some, None}
+use Rattle.std.specs.Prelude.{ℕ, ◌+◌, ◌==◌, Bool, true, false, if◌then◌else◌, ◌&&◌, List, [], ◌∷◌, Option, Some, None}
 use Rattle.fk_client.specs.declared.unanswered.Outcome.{Outcome}
 use Rattle.fk_client.specs.declared.unanswered.Outcome.TheVariants as outcome
 use Rattle.fk_client.specs.declared.unanswered.Unanswered.{Unanswered}

@@ -49,12 +49,7 @@ fn seen_in(client: u32, line: &Line, seen: u64) -> u64
 }
 
 /// Prints a line.
-pub fn print(
-    client: u32,
-    seen: &mut u64,
-    lines: &mut Lines,
-    line: Line,
-) -> Result<(), NoMemory>
+pub fn print(client: u32, seen: &mut u64, lines: &mut Lines, line: Line) -> Result<(), NoMemory>
     ensures seen { OnOk result (seen.new ≡ seen_in client line seen.old) }
     ensures lines { OnOk result (lines.new ≡ lines.old ++ line ∷ []) }
 {

@@ -178,11 +178,22 @@ fn is_reply(lines: &Lines, place: u32) -> bool {
 /// Whether it is this client's own refusal, with a reply that its arguments are bad.
 fn is_refusal(made: Option<&(Op, Lines)>, place: u32) -> bool {
     match made {
-        Some((Op::Local { session: 1, command }, lines)) => {
+        Some(
+            (
+                Op::Local {
+                    session: 1,
+                    command,
+                },
+                lines,
+            ),
+        ) => {
             *command == place
                 && matches!(
                     lines.as_slice(),
-                    [Line::Reply { shown: Shown::Plain(Code::BadArguments), .. }]
+                    [Line::Reply {
+                        shown: Shown::Plain(Code::BadArguments),
+                        ..
+                    }]
                 )
                 && is_reply(lines, place)
         }
@@ -251,9 +262,23 @@ fn send_and_look(alloc: Global, services: &mut Services) -> Result<Vec<(Op, Line
 fn is_waiting(made: &[(Op, Lines)]) -> bool {
     match made {
         [
-            (Op::Send { command: 1, k: 1, .. }, sent),
+            (
+                Op::Send {
+                    command: 1,
+                    k: 1,
+                    ..
+                },
+                sent,
+            ),
             (Op::TakeDone { k: 1, tx: 1, .. }, taken),
-            (Op::LookBehind { command: 1, mark: 0, .. }, looked),
+            (
+                Op::LookBehind {
+                    command: 1,
+                    mark: 0,
+                    ..
+                },
+                looked,
+            ),
         ] => {
             sent.as_slice().is_empty()
                 && taken.as_slice().is_empty()
@@ -282,9 +307,30 @@ fn watch_root(alloc: Global, services: &mut Services) -> Result<Vec<(Op, Lines)>
 fn is_watching(made: &[(Op, Lines)]) -> bool {
     match made {
         [
-            (Op::Read { command: 1, stamp: 0, .. }, read),
-            (Op::LookOk { command: 1, mark: 0, .. }, looked),
-            (Op::WatchSet { command: 1, watch: 1, .. }, set),
+            (
+                Op::Read {
+                    command: 1,
+                    stamp: 0,
+                    ..
+                },
+                read,
+            ),
+            (
+                Op::LookOk {
+                    command: 1,
+                    mark: 0,
+                    ..
+                },
+                looked,
+            ),
+            (
+                Op::WatchSet {
+                    command: 1,
+                    watch: 1,
+                    ..
+                },
+                set,
+            ),
         ] => read.as_slice().is_empty() && looked.as_slice().is_empty() && is_reply(set, 1),
         _ => false,
     }

@@ -37,7 +37,9 @@ pub enum Outcome {
     /// A code that speaks of no number.
     Plain(Code),
     /// Its session is closed; the client had seen this number.
-    Expired { at: u64 },
+    Expired {
+        at: u64,
+    },
 }
 
 /// A command that isn't answered: its place among its client's, from 1, and its message's place in the
@@ -70,10 +72,8 @@ impl Outcome {
         match self {
             Outcome::Done { tx, .. } => Some(*tx),
             Outcome::Refused { at, .. } => Some(*at),
-            Outcome::Open
-            | Outcome::Lost { .. }
-            | Outcome::Plain(_)
-            | Outcome::Expired { .. } => None,
+            Outcome::Open | Outcome::Lost { .. } | Outcome::Plain(_) | Outcome::Expired { .. } =>
+                None,
         }
     }
 

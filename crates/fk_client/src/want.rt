@@ -165,11 +165,7 @@ fn delete_part(alloc: Global, path: &Text, version: i32) -> Result<Option<Part>,
 }
 
 // adds the parts that these mean, and tells whether each of them is fit
-fn push_parts(
-    alloc: Global,
-    parts: &mut Parts,
-    commands: &[PartCommand],
-) -> Result<bool, NoMemory>
+fn push_parts(alloc: Global, parts: &mut Parts, commands: &[PartCommand]) -> Result<bool, NoMemory>
     ensures { IfOk result (λ fit. option_map (λ ps. parts.old ++ ps) (parts_of commands.now) ≡ (if fit then Some parts.new else None)) }
 {
     match commands {

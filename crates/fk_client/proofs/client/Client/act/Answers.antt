@@ -1,9 +1,8 @@
-use Rattle.std.proofs.Common.{rules, ◌≡◌, Option, Some, None, IfOk, sym, ◌∙◌, ap, subst}
+use Rattle.std.proofs.Common.{rules, ◌≡◌, IfOk, sym, ◌∙◌, ap, subst}
 use Rattle.fk_queue.specs.Posts.{post_of}
 use Rattle.fk_queue.specs.declared.lane.Lane.TheVariants as lane
 use Rattle.fk_user.specs.Stored.{store_of}
 use Rattle.fk_watch.specs.Kept.{watches_of}
-use Rattle.fk_client.specs.Services.{table_by, user_by, watches_by}
 use Rattle.fk_client.specs.Shown.{made_by, own_lines}
 use Rattle.fk_client.specs.Standing.{client_of, pings_of}
 use Rattle.fk_client.specs.Operation.{step_op}
@@ -45,9 +44,9 @@ pub returns-in-Some-target-clause-op : goal.returns-in-Some-target-clause-op
 unfolding client_of
 returns-in-Some-target-clause-op g c = λ told i. subst (λ o. IfOk c.look.result (λ r. r.0 ≡ o))
     (sym (steps.looks (g.T.Table.meaning c.args.table.now) (post_of c.args.post.now) (watches_of c.args.watches.now) (store_of c.args.user.now) (client_of c.args.self.now) told c.in-Some-target.target
-      (steps.none_told ((post_of c.args.post.now).lanes (lane.Inbox c.args.self.now.session)).waiting told (sym c.head.ensures ∙ c.in_default-head.is) i)
-      (ap pings_of c.in_default.is)
-      (sym c.target.ensures ∙ c.in-Some-target.is)))
+    (steps.none_told ((post_of c.args.post.now).lanes (lane.Inbox c.args.self.now.session)).waiting told (sym c.head.ensures ∙ c.in_default-head.is) i)
+    (ap pings_of c.in_default.is)
+    (sym c.target.ensures ∙ c.in-Some-target.is)))
     c.look.ensures.op
 
 pub returns-in-Some-target-clause-lines : goal.returns-in-Some-target-clause-lines
@@ -60,10 +59,10 @@ pub returns-then-is_some-clause-op : goal.returns-then-is_some-clause-op
 unfolding client_of
 returns-then-is_some-clause-op g c = λ told i. subst (λ o. IfOk c.watch.result (λ r. r.0 ≡ o))
     (sym (steps.watches (g.T.Table.meaning c.args.table.now) (post_of c.args.post.now) (watches_of c.args.watches.now) (store_of c.args.user.now) (client_of c.args.self.now) told
-      (steps.none_told ((post_of c.args.post.now).lanes (lane.Inbox c.args.self.now.session)).waiting told (sym c.head.ensures ∙ c.in_default-head.is) i)
-      (ap pings_of c.in_default.is)
-      (sym c.target.ensures ∙ c.in_default-target.is)
-      (search rules)))
+    (steps.none_told ((post_of c.args.post.now).lanes (lane.Inbox c.args.self.now.session)).waiting told (sym c.head.ensures ∙ c.in_default-head.is) i)
+    (ap pings_of c.in_default.is)
+    (sym c.target.ensures ∙ c.in_default-target.is)
+    (search rules)))
     c.watch.ensures.op
 
 pub returns-then-is_some-clause-lines : goal.returns-then-is_some-clause-lines
@@ -85,10 +84,10 @@ pub returns-clause-op : goal.returns-clause-op
 unfolding client_of
 returns-clause-op g c = λ told i. subst (λ o. IfOk c.begin.result (λ r. r.0 ≡ o))
     (sym (steps.begins (g.T.Table.meaning c.args.table.now) (post_of c.args.post.now) (watches_of c.args.watches.now) (store_of c.args.user.now) (client_of c.args.self.now) told
-      (steps.none_told ((post_of c.args.post.now).lanes (lane.Inbox c.args.self.now.session)).waiting told (sym c.head.ensures ∙ c.in_default-head.is) i)
-      (ap pings_of c.in_default.is)
-      (sym c.target.ensures ∙ c.in_default-target.is)
-      (search rules)))
+    (steps.none_told ((post_of c.args.post.now).lanes (lane.Inbox c.args.self.now.session)).waiting told (sym c.head.ensures ∙ c.in_default-head.is) i)
+    (ap pings_of c.in_default.is)
+    (sym c.target.ensures ∙ c.in_default-target.is)
+    (search rules)))
     (c.begin.ensures.op (g.T.Table.meaning c.args.table.now) (watches_of c.args.watches.now))
 
 pub returns-clause-lines : goal.returns-clause-lines
