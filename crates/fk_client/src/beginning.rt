@@ -97,7 +97,7 @@ fn local_outcome(unfit: bool, seen: u64) -> Outcome
 }
 
 impl Client {
-    /// Whether its next command may begin.
+    /// Whether there is no next command, or it has to wait.
     #[tactic(auto, unfolding(crate::specs::Standing::client_of))]
     pub(crate) fn waits(&self) -> bool
         ensures { result ≡ waits_next (client_of self.now) (next_asked (client_of self.now)) }
