@@ -1,0 +1,8 @@
+pub mod Asking
+pub mod Settling
+pub mod Numbers
+pub mod Finding
+pub mod Watching
+pub mod Wants
+pub mod Steps
+pub mod Trying

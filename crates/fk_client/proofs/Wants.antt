@@ -1,0 +1,73 @@
+-- What follows where the next command wants something.
+use Rattle.std.proofs.Common.{◌≡◌, ◌+◌, Bool, true, false, cond, Option, Some, None, refl, sym, subst, arith}
+use Rattle.std.specs.Prelude.{is_some, not}
+use Rattle.fk_print.specs.declared.op.Op.TheVariants as op
+use Rattle.fk_queue.specs.Meaning as post
+use Rattle.fk_tree.specs.Ask.{path_asked}
+use Rattle.fk_tree.specs.declared.request.Query.{Query}
+use Rattle.fk_tree.specs.declared.request.Request.{Request}
+use Rattle.fk_user.specs.Meaning as user
+use Rattle.fk_wire.specs.Limits.{IsLimitedRequest}
+use Rattle.fk_script.specs.declared.command.Command.{Command}
+use Rattle.fk_spec.specs.Client.{is_unfit}
+use Rattle.fk_spec.specs.Plan.{Ask, Want, Unfit, Writes, Reads, ask_of, want_of}
+use Rattle.fk_client.specs.Beginning.{IsNextRead, IsNextWrite, Wants}
+use Rattle.fk_client.specs.Fit.{IsLimitedAsk, IsLimitedWant}
+use Rattle.fk_client.specs.Idle.{waits_next}
+use Rattle.fk_client.specs.Meaning.{Meaning, may_begin, next_asked}
+use Rattle.fk_client.specs.Operation.{begin_op, next_command_op}
+
+pub some : (o : Option Ask) (w : Want) → Wants o w → is_some o ≡ true
+some None w x = absurd x
+some (Some a) w x = refl
+
+pub wants : (o : Option Ask) (c : Command) (w : Want) → Some (ask_of c) ≡ o → w ≡ want_of c → Wants o w
+wants o c w e f = rw (sym e, f) refl
+
+unfit_any : (a : Ask) (w : Want) → a.want ≡ w → is_unfit (Some a) ≡ is_unfit (Some (record a { want = w }))
+unfit_any a w e = rw (sym e) refl
+
+pub unfit : (o : Option Ask) → Wants o Unfit → is_unfit o ≡ true
+unfit None x = absurd x
+unfit (Some a) x = unfit_any a Unfit x
+
+pub unfit_write : (o : Option Ask) (r : Request) → Wants o (Writes r) → is_unfit o ≡ false
+unfit_write None r x = absurd x
+unfit_write (Some a) r x = unfit_any a (Writes r) x
+
+pub unfit_read : (o : Option Ask) (q : Query) (watch : Bool) → Wants o (Reads q watch) → is_unfit o ≡ false
+unfit_read None q watch x = absurd x
+unfit_read (Some a) q watch x = unfit_any a (Reads q watch) x
+
+pub writes : (o : Option Ask) (r : Request) → Wants o (Writes r) → IsNextWrite o r
+writes None r x = absurd x
+writes (Some a) r x = rw x refl
+
+pub reads : (o : Option Ask) (q : Query) (watch : Bool) → Wants o (Reads q watch) → IsNextRead o (path_asked q)
+reads None q watch x = absurd x
+reads (Some a) q watch x = rw x refl
+
+limited_in : (w : Want) (r : Request) → w ≡ Writes r → IsLimitedWant w → IsLimitedRequest r
+limited_in w r e l = subst IsLimitedWant e l
+
+pub limited : (o : Option Ask) (r : Request) → Wants o (Writes r) → IsLimitedAsk o → IsLimitedRequest r
+limited None r x l = absurd x
+limited (Some a) r x l = limited_in a.want r x l
+
+begins_in : (q : post.Meaning) (u : user.Meaning) (m : Meaning) (o : Option Ask) (w : Want) → Wants o w → waits_next m o ≡ false → next_command_op q u m o ≡ begin_op q u m.session (m.client.begun + 1) m.client.closed w
+begins_in q u m None w x e = absurd x
+begins_in q u m (Some a) w x e = rw x (step (may_begin m.asks a m.client.sent) e)
+  where
+    step : (b : Bool) → not b ≡ false → cond b (begin_op q u m.session (m.client.begun + 1) m.client.closed w) op.Idle ≡ begin_op q u m.session (m.client.begun + 1) m.client.closed w
+    step true e = refl
+    step false e = absurd (grind arith)
+
+pub begins : (q : post.Meaning) (u : user.Meaning) (m : Meaning) (w : Want) → Wants (next_asked m) w → waits_next m (next_asked m) ≡ false → next_command_op q u m (next_asked m) ≡ begin_op q u m.session (m.client.begun + 1) m.client.closed w
+begins q u m w x e = begins_in q u m (next_asked m) w x e
+
+limited_as : (w v : Want) → v ≡ w → IsLimitedWant w → IsLimitedWant v
+limited_as w v e l = subst IsLimitedWant (sym e) l
+
+pub limited_ask : (o : Option Ask) (w : Want) → Wants o w → IsLimitedWant w → IsLimitedAsk o
+limited_ask None w x l = absurd x
+limited_ask (Some a) w x l = limited_as w a.want x l

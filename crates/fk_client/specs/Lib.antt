@@ -1,0 +1,16 @@
+pub mod Answering
+pub mod Beginning
+pub mod Fit
+pub mod Idle
+pub mod Looking
+pub mod Meaning
+pub mod Next
+pub mod Operation
+pub mod Registering
+pub mod Services
+pub mod Shown
+pub mod Standing
+pub mod Told
+pub mod Tried
+pub mod Unready
+pub mod Wanted

@@ -1,0 +1,23 @@
+//! The client of a session: a machine of one operation per step. It sends its writes, reads the storage, waits
+//! until what it prints may be seen, and prints. The rules stand in `specs/`.
+#![tactic(auto)]
+
+mod beginning;
+mod client;
+mod lists;
+mod looking;
+mod pinging;
+mod printing;
+mod reading;
+mod registering;
+mod replying;
+mod stepping;
+mod taking;
+#[cfg(test)]
+mod tests;
+mod unanswered;
+mod want;
+
+pub use client::Client;
+pub use reading::Reading;
+pub use unanswered::{Outcome, Unanswered};

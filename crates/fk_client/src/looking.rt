@@ -1,0 +1,291 @@
+//! A client looks before it prints.
+
+ghost use Rattle.std.specs.Prelude.{◌≡◌, ◌++◌, ◌∷◌, [], ◌+◌, true, is_some, Option, Some, IfOk, OnOk};
+ghost use Rattle.fk_user.specs.Meaning as store;
+ghost use Rattle.fk_user.specs.Meaning.{called};
+ghost use Rattle.fk_user.specs.Stored.{store_of};
+ghost use Rattle.fk_wire.specs.declared.message.Tell.{Tell};
+ghost use Rattle.fk_spec.specs.Plan.{asks_of};
+ghost use Rattle.fk_spec.specs.Client.{is_close, registers};
+ghost use Rattle.fk_client.specs.Answering.{looked_at, sets_watch, shown_found};
+ghost use Rattle.fk_client.specs.Looking.{look_op, target_of, target_sent};
+ghost use Rattle.fk_client.specs.Meaning.{asked, asks_read, holding, next_asked};
+ghost use Rattle.fk_client.specs.Next as next;
+ghost use Rattle.fk_client.specs.Next.{answered, close_if, looked, looked_for};
+ghost use Rattle.fk_client.specs.Operation.{failed_if};
+ghost use Rattle.fk_client.specs.Services.{user_by};
+ghost use Rattle.fk_client.specs.Shown.{first_line, line_for, looked_lines, made_by, own_lines, read_line, seeing};
+ghost use Rattle.fk_client.specs.Standing.{client_of};
+
+use crate::client::Client;
+use crate::lists::{command_at, first_held};
+use crate::printing::print;
+use crate::reading::Reading;
+use crate::replying::{line_for, reply_line};
+use crate::unanswered::Unanswered;
+use crate::want::is_close;
+use fk_base::{Code, NoMemory};
+use fk_print::{Line, Lines, Op, Shown};
+use fk_script::Command;
+use fk_tree::Node;
+use fk_user::{UserLook, UserStore};
+use std::alloc::Global;
+
+/// What a client looks for: a command that is to be printed, and its number of the tree.
+#[derive(Clone, Copy)]
+pub struct Target {
+    pub command: u32,
+    pub number: u64,
+}
+
+// what a look shows
+#[derive(Clone, Copy)]
+enum Looked {
+    Failed,
+    Behind(u64),
+    Held { mark: u64, watch: u64 },
+    Free(u64),
+}
+
+// looks at the mark and the epoch
+fn look_at(user: &mut UserStore, held: &[u64], number: u64) -> Looked
+    ensures looked { result ≡ looked_at (store_of user.old) held.now number }
+    ensures user { store_of user.new ≡ called (store_of user.old) }
+{
+    match user.look() {
+        UserLook::Failed => Looked::Failed,
+        UserLook::Shown { mark, epoch } => {
+            if mark < number {
+                return Looked::Behind(mark);
+            }
+            match first_held(epoch.as_slice(), held) {
+                None => Looked::Free(mark),
+                Some(watch) => Looked::Held { mark, watch },
+            }
+        }
+    }
+}
+
+// the first reply, where it needs a look
+fn target_sent(sent: &[Unanswered]) -> Option<Target>
+    ensures { result ≡ target_sent sent.now }
+{
+    match sent {
+        [] => None,
+        [first, ..] => first.outcome.number().map(|number| Target {
+            command: first.command,
+            number,
+        }),
+    }
+}
+
+/// What a read shows at a number.
+fn shown_found(at: u64, found: Option<Node>, command: &Command) -> Shown
+    ensures { result ≡ shown_found at found command.now }
+{
+    let Some(node) = found else {
+        return Shown::Refused {
+            code: Code::NoNode,
+            at,
+            place: 0,
+        };
+    };
+    let stat = node.stat();
+    match command {
+        Command::Get { .. } => Shown::Got {
+            at,
+            bytes: node.bytes,
+            stat,
+        },
+        Command::Stat { .. } => Shown::Stated { at, stat },
+        Command::Ls { .. } => Shown::Listed {
+            at,
+            names: node.names,
+        },
+        Command::Create { .. }
+        | Command::Set { .. }
+        | Command::Delete { .. }
+        | Command::Close
+        | Command::Multi { .. } => Shown::Plain(Code::SystemError),
+    }
+}
+
+// whether a read sets a watch: with -w where the node is there, and a stat on a missing node too
+fn sets_watch(command: &Command, found: bool) -> bool
+    ensures { result ≡ sets_watch command.now found }
+{
+    match command {
+        Command::Get { watch, .. } | Command::Ls { watch, .. } => *watch && found,
+        Command::Stat { watch, .. } => *watch,
+        Command::Create { .. }
+        | Command::Set { .. }
+        | Command::Delete { .. }
+        | Command::Close
+        | Command::Multi { .. } => false,
+    }
+}
+
+impl Client {
+    /// What it looks for, where it does.
+    #[tactic(auto, unfolding(crate::specs::Standing::client_of), using(crate::proofs::Asking::read_next))]
+    pub(crate) fn target(&self) -> Option<Target>
+        ensures { result ≡ target_of (client_of self.now) (client_of self.now).client.reading }
+    {
+        let sent = target_sent(self.sent.as_slice());
+        match &self.reading {
+            None => sent,
+            Some(reading) => {
+                if reading.looked {
+                    return sent;
+                }
+                Some(Target {
+                    command: self.place(),
+                    number: self.seen.max(reading.stamp),
+                })
+            }
+        }
+    }
+
+    /// It looks whether its line may be printed.
+    #[tactic(auto, unfolding(crate::specs::Standing::client_of))]
+    pub(crate) fn look(
+        &mut self,
+        user: &mut UserStore,
+        target: Target,
+    ) -> Result<(Op, Lines), NoMemory>
+        ensures op { IfOk result (λ r. r.0 ≡ failed_if (store_of user.old).armed (look_op (store_of user.old) self.old.session self.old.held.items target)) }
+        ensures lines { (told : Option Tell) → IfOk result (λ r. r.1 ≡ own_lines told r.0 (client_of self.old)) }
+        ensures client { (u : store.Meaning) (told : Option Tell) → IfOk result (λ r. client_of self.new ≡ made_by u told r.0 (client_of self.old)) }
+        ensures user { IfOk result (λ r. store_of user.new ≡ user_by r.0 (store_of user.old)) }
+    {
+        let session = self.session;
+        let command = target.command;
+        match look_at(user, self.held.as_slice(), target.number) {
+            Looked::Failed => Ok((Op::LookFault { session, command }, Lines::new(self.alloc))),
+            Looked::Behind(mark) => Ok((
+                Op::LookBehind {
+                    session,
+                    command,
+                    mark,
+                },
+                Lines::new(self.alloc),
+            )),
+            Looked::Held { mark, watch } => Ok((
+                Op::LookHeld {
+                    session,
+                    command,
+                    mark,
+                    watch,
+                },
+                Lines::new(self.alloc),
+            )),
+            Looked::Free(mark) => {
+                let lines = self.looked()?;
+                Ok((
+                    Op::LookOk {
+                        session,
+                        command,
+                        mark,
+                    },
+                    lines,
+                ))
+            }
+        }
+    }
+
+    // the look was ok
+    #[tactic(auto, unfolding(crate::specs::Standing::client_of))]
+    fn looked(&mut self) -> Result<Lines, NoMemory>
+        ensures lines { IfOk result (λ ls. ls ≡ looked_lines (client_of self.old) (client_of self.old).client.reading) }
+        ensures client { OnOk result (client_of self.new ≡ seeing (looked_lines (client_of self.old) (client_of self.old).client.reading) (looked (client_of self.old) (client_of self.old).client.reading) (client_of self.old)) }
+    {
+        match self.reading.take() {
+            None => self.reply(),
+            Some(reading) => self.read_on(reading),
+        }
+    }
+
+    // the first reply is printed, and leaves the list
+    #[tactic(auto, unfolding(crate::specs::Standing::client_of))]
+    fn reply(&mut self) -> Result<Lines, NoMemory>
+        ensures lines { IfOk result (λ ls. ls ≡ first_line self.old.session (asks_of self.old.commands) self.old.sent.items) }
+        ensures client { OnOk result (client_of self.new ≡ seeing (first_line self.old.session (asks_of self.old.commands) self.old.sent.items) (looked_for (asks_of self.old.commands) self.old.sent.items (client_of self.old).client) (client_of self.old)) }
+    {
+        let mut lines = Lines::new(self.alloc);
+        if self.sent.is_empty() {
+            return Ok(lines);
+        }
+        let first = self.sent.remove(0);
+        let line = reply_line(self.alloc, self.session, self.commands.as_slice(), &first)?;
+        print(self.session, &mut self.seen, &mut lines, line)?;
+        self.close_after(first.command);
+        Ok(lines)
+    }
+
+    // an answered close makes the session known as closed, and its watches no longer held
+    #[tactic(auto, unfolding(crate::specs::Standing::client_of))]
+    fn close_after(&mut self, command: u32)
+        ensures { client_of self.new ≡ holding (close_if (is_close (asked (client_of self.old) command)) (client_of self.old).client) (client_of self.old) }
+    {
+        let closes = match command_at(self.commands.as_slice(), command) {
+            None => false,
+            Some(command) => is_close(command),
+        };
+        if closes {
+            self.held = Vec::new(self.alloc);
+            self.closed = true;
+        }
+    }
+
+    // a read that was looked at is answered, or waits for its registration
+    #[tactic(auto, unfolding(crate::specs::Standing::client_of), using(crate::proofs::Asking::read_next, crate::proofs::Finding::sets_is))]
+    fn read_on(&mut self, reading: Reading) -> Result<Lines, NoMemory>
+        requires reads { asks_read (next_asked (client_of self.old)) ≡ true }
+        ensures lines { IfOk result (λ ls. ls ≡ looked_lines (client_of self.old) (Some reading)) }
+        ensures client { OnOk result (client_of self.new ≡ seeing (looked_lines (client_of self.old) (Some reading)) (next.looked_at (registers (next_asked (client_of self.old)) reading.node) reading (client_of self.old).client) (client_of self.old)) }
+    {
+        let Some(command) = self.next() else {
+            unreachable!();
+        };
+        if sets_watch(command, reading.node.is_some()) {
+            self.reading = Some(Reading {
+                node: reading.node,
+                stamp: reading.stamp,
+                looked: true,
+            });
+            return Ok(Lines::new(self.alloc));
+        }
+        self.answer(reading)
+    }
+
+    /// Its read is answered.
+    #[tactic(auto, unfolding(crate::specs::Standing::client_of), using(crate::proofs::Asking::read_next, crate::proofs::Finding::shown_is))]
+    pub(crate) fn answer(&mut self, reading: Reading) -> Result<Lines, NoMemory>
+        requires reads { asks_read (next_asked (client_of self.old)) ≡ true }
+        ensures lines { IfOk result (λ ls. ls ≡ read_line (client_of self.old) reading ∷ []) }
+        ensures client { OnOk result (client_of self.new ≡ seeing (read_line (client_of self.old) reading ∷ []) (answered (client_of self.old).client) (client_of self.old)) }
+    {
+        let Some(command) = self.next() else {
+            unreachable!();
+        };
+        let at = self.seen.max(reading.stamp);
+        let shown = shown_found(at, reading.node, command);
+        self.end(shown)
+    }
+
+    /// Its next command, a read, shows this, and is done.
+    #[tactic(auto, unfolding(crate::specs::Standing::client_of), using(crate::proofs::Asking::read_next))]
+    pub(crate) fn end(&mut self, shown: Shown) -> Result<Lines, NoMemory>
+        requires reads { asks_read (next_asked (client_of self.old)) ≡ true }
+        ensures lines { IfOk result (λ ls. ls ≡ line_for self.old.session (self.old.begun + 1) (next_asked (client_of self.old)) shown ∷ []) }
+        ensures client { OnOk result (client_of self.new ≡ seeing (line_for self.old.session (self.old.begun + 1) (next_asked (client_of self.old)) shown ∷ []) (answered (client_of self.old).client) (client_of self.old)) }
+    {
+        let mut lines = Lines::new(self.alloc);
+        let place = self.place();
+        let line = line_for(self.session, place, self.next(), shown);
+        print(self.session, &mut self.seen, &mut lines, line)?;
+        self.begun = place;
+        self.reading = None;
+        Ok(lines)
+    }
+}

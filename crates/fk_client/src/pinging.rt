@@ -1,0 +1,44 @@
+//! A client answers a ping.
+
+ghost use Rattle.std.specs.Prelude.{◌≡◌, [], true, is_some, Option, Some, IfOk};
+ghost use Rattle.fk_print.specs.declared.op.Op.TheVariants as op;
+ghost use Rattle.fk_user.specs.Meaning as store;
+ghost use Rattle.fk_wire.specs.declared.message.Tell.{Tell};
+ghost use Rattle.fk_client.specs.Operation.{failed_if};
+ghost use Rattle.fk_client.specs.Services.{table_by};
+ghost use Rattle.fk_client.specs.Shown.{made_by, own_lines};
+ghost use Rattle.fk_client.specs.Standing.{client_of};
+
+use crate::client::Client;
+use fk_base::NoMemory;
+use fk_print::{Lines, Op};
+use fk_store::{Table, Transact, Write};
+
+impl Client {
+    /// It answers the ping that it owes.
+    #[tactic(auto, unfolding(crate::specs::Standing::client_of), using(crate::proofs::Numbers::without_one))]
+    pub(crate) fn pong<T: Table>(
+        &mut self,
+        table: &mut T,
+        ping: u64,
+    ) -> Result<(Op, Lines), NoMemory>
+        requires owed { self.old.owed ≡ Some ping }
+        requires session { is_some ((T.meaning table.old).sessions self.old.session) ≡ true }
+        ensures op { IfOk result (λ r. r.0 ≡ failed_if (T.meaning table.old).armed (op.Pong self.old.session ping)) }
+        ensures lines { (told : Option Tell) → IfOk result (λ r. r.1 ≡ own_lines told r.0 (client_of self.old)) }
+        ensures client { (u : store.Meaning) (told : Option Tell) → IfOk result (λ r. client_of self.new ≡ made_by u told r.0 (client_of self.old)) }
+        ensures table { IfOk result (λ r. T.meaning table.new ≡ table_by r.0 (T.meaning table.old)) }
+    {
+        let session = self.session;
+        let writes = [Write::Pong { session, n: ping }];
+        match table.transact(&[], &writes) {
+            Transact::Done => {
+                self.owed = None;
+                Ok((Op::Pong { session, ping }, Lines::new(self.alloc)))
+            }
+            Transact::Missed { .. } => unreachable!(),
+            Transact::Failed => Ok((Op::PongFault { session }, Lines::new(self.alloc))),
+            Transact::NoMemory => Err(NoMemory),
+        }
+    }
+}

@@ -1,0 +1,219 @@
+//! A client takes the message at the head of its inbox.
+
+ghost use Rattle.std.specs.Prelude.{◌≡◌, [], true, is_some, None, Option, Some, IfOk, OnOk};
+ghost use Rattle.fk_queue.specs.Lanes.{is_session};
+ghost use Rattle.fk_queue.specs.Letters.{head_bytes, head_number};
+ghost use Rattle.fk_queue.specs.Meaning.{has_lane};
+ghost use Rattle.fk_queue.specs.Posts.{post_of};
+ghost use Rattle.fk_queue.specs.declared.lane.Lane.{Lane};
+ghost use Rattle.fk_queue.specs.declared.lane.Lane.TheVariants as lane;
+ghost use Rattle.fk_store.specs.Meaning as records;
+ghost use Rattle.fk_user.specs.Meaning as store;
+ghost use Rattle.fk_watch.specs.Meaning.{Watches};
+ghost use Rattle.fk_wire.specs.declared.message.Tell.{Tell};
+ghost use Rattle.fk_wire.specs.declared.message.Tell.TheVariants as tell;
+ghost use Rattle.fk_client.specs.Meaning.{holding};
+ghost use Rattle.fk_client.specs.Next.{evicted, settle_with, taken, without_reading};
+ghost use Rattle.fk_client.specs.Operation.{failed_if, take_op};
+ghost use Rattle.fk_client.specs.Services.{post_by, table_by, user_by, watches_by};
+ghost use Rattle.fk_client.specs.Shown.{expired_lines, made_by, own_lines, seeing, taken_lines};
+ghost use Rattle.fk_client.specs.Standing.{client_of};
+ghost use Rattle.fk_client.specs.Told.{IsReadable, IsTold};
+
+use crate::client::Client;
+use crate::lists::{contains, forget, settle};
+use crate::printing::print;
+use crate::unanswered::Outcome;
+use fk_base::NoMemory;
+use fk_print::{Line, Lines, Op};
+use fk_queue::{Ack, Lane, Post};
+use fk_wire::{Fired, Tell, WireFault, decode_tell};
+use std::alloc::Global;
+
+// the text of the message at the head of a lane
+pub fn head_text(alloc: Global, post: &Post, lane: Lane) -> Result<Vec<u8>, NoMemory>
+    requires lane { has_lane (post_of post.now) lane ≡ true }
+    requires head { is_some (head_number ((post_of post.now).lanes lane)) ≡ true }
+    ensures { IfOk result (λ text. text.items ≡ head_bytes ((post_of post.now).lanes lane)) }
+{
+    let mut text = Vec::from_elem(alloc, 0, post.head_len(lane))?;
+    post.copy_head(lane, text.as_mut_slice());
+    Ok(text)
+}
+
+// the message at the head of a lane
+fn head_message(alloc: Global, post: &Post, lane: Lane) -> Result<Tell, NoMemory>
+    requires lane { has_lane (post_of post.now) lane ≡ true }
+    requires head { is_some (head_number ((post_of post.now).lanes lane)) ≡ true }
+    requires readable { IsReadable ((post_of post.now).lanes lane).waiting }
+    ensures { (m : Tell) → IsTold ((post_of post.now).lanes lane).waiting (Some m) → IfOk result (λ n. n ≡ m) }
+{
+    let text = head_text(alloc, post, lane)?;
+    match decode_tell(alloc, text.as_slice()) {
+        Ok(message) => Ok(message),
+        Err(WireFault::Malformed) => unreachable!(),
+        Err(WireFault::NoMemory) => Err(NoMemory),
+    }
+}
+
+impl Client {
+    /// It takes the message at the head of its inbox, which has this number.
+    #[tactic(auto, unfolding(crate::specs::Standing::client_of))]
+    pub(crate) fn take(&mut self, post: &mut Post, number: u64) -> Result<(Op, Lines), NoMemory>
+        requires owed { self.old.owed ≡ None }
+        requires session { is_session (post_of post.old).sessions self.old.session ≡ true }
+        requires head { head_number ((post_of post.old).lanes (lane.Inbox self.old.session)) ≡ Some number }
+        requires readable { IsReadable ((post_of post.old).lanes (lane.Inbox self.old.session)).waiting }
+        ensures op { (told : Tell) → IsTold ((post_of post.old).lanes (lane.Inbox self.old.session)).waiting (Some told) → IfOk result (λ r. r.0 ≡ failed_if (post_of post.old).armed (take_op self.old.session told)) }
+        ensures lines { (told : Tell) → IsTold ((post_of post.old).lanes (lane.Inbox self.old.session)).waiting (Some told) → IfOk result (λ r. r.1 ≡ own_lines (Some told) r.0 (client_of self.old)) }
+        ensures client { (u : store.Meaning) (told : Tell) → IsTold ((post_of post.old).lanes (lane.Inbox self.old.session)).waiting (Some told) → IfOk result (λ r. client_of self.new ≡ made_by u (Some told) r.0 (client_of self.old)) }
+        ensures post { IfOk result (λ r. post_of post.new ≡ post_by (client_of self.old) r.0 (post_of post.old)) }
+        ensures table { (t : records.Meaning) → IfOk result (λ r. t ≡ table_by r.0 t) }
+        ensures watches { (w : Watches) → IfOk result (λ r. w ≡ watches_by (client_of self.old) r.0 w) }
+        ensures user { (u : store.Meaning) → IfOk result (λ r. u ≡ user_by r.0 u) }
+    {
+        let lane = Lane::Inbox(self.session);
+        let message = head_message(self.alloc, post, lane)?;
+        match post.ack(lane, number) {
+            Ack::Acked => self.told(message),
+            Ack::NotHead => unreachable!(),
+            Ack::Failed => Ok((
+                Op::TakeFault {
+                    session: self.session,
+                },
+                Lines::new(self.alloc),
+            )),
+        }
+    }
+
+    // it is told a message; a read that isn't answered is given up
+    #[tactic(auto, unfolding(crate::specs::Standing::client_of))]
+    fn told(&mut self, message: Tell) -> Result<(Op, Lines), NoMemory>
+        requires owed { self.old.owed ≡ None }
+        ensures op { IfOk result (λ r. r.0 ≡ take_op self.old.session message) }
+        ensures table { (t : records.Meaning) → IfOk result (λ r. t ≡ table_by r.0 t) }
+        ensures watches { (w : Watches) → IfOk result (λ r. w ≡ watches_by (client_of self.old) r.0 w) }
+        ensures user { (u : store.Meaning) → IfOk result (λ r. u ≡ user_by r.0 u) }
+        ensures lines { IfOk result (λ r. r.1 ≡ taken_lines (client_of self.old) message) }
+        ensures client { OnOk result (client_of self.new ≡ seeing (taken_lines (client_of self.old) message) (taken message (client_of self.old).client) (client_of self.old)) }
+    {
+        let session = self.session;
+        match message {
+            Tell::Done {
+                k,
+                tx,
+                name,
+                version,
+                made,
+            } => {
+                self.settle(
+                    k,
+                    Outcome::Done {
+                        tx,
+                        name,
+                        version,
+                        made,
+                    },
+                );
+                Ok((Op::TakeDone { session, k, tx }, Lines::new(self.alloc)))
+            }
+            Tell::Evicted { k, tx } => {
+                let lines = self.evict(tx)?;
+                Ok((Op::TakeEvicted { session, k, tx }, lines))
+            }
+            Tell::Refused { k, code, at, place } => {
+                self.settle(k, Outcome::Refused { code, at, place });
+                Ok((Op::TakeRefused { session, k }, Lines::new(self.alloc)))
+            }
+            Tell::Lost {
+                k,
+                path,
+                own,
+                found,
+                moment,
+            } => {
+                self.settle(
+                    k,
+                    Outcome::Lost {
+                        path,
+                        own,
+                        found,
+                        moment,
+                    },
+                );
+                Ok((Op::TakeLost { session, k }, Lines::new(self.alloc)))
+            }
+            Tell::Watch { tx, fired } => {
+                let watch = fired.id;
+                let lines = self.notice(tx, fired)?;
+                Ok((Op::TakeWatch { session, watch }, lines))
+            }
+            Tell::Ping(ping) => {
+                self.give_up();
+                self.owed = if self.closed { None } else { Some(ping) };
+                Ok((Op::TakePing { session, ping }, Lines::new(self.alloc)))
+            }
+        }
+    }
+
+    #[tactic(auto, unfolding(crate::specs::Standing::client_of))]
+    fn settle(&mut self, k: u64, outcome: Outcome)
+        ensures { client_of self.new ≡ seeing [] (settle_with k outcome (client_of self.old).client) (client_of self.old) }
+    {
+        settle(&mut self.sent, k, outcome);
+        self.give_up();
+    }
+
+    // a read that isn't answered is given up
+    #[tactic(auto, unfolding(crate::specs::Standing::client_of))]
+    fn give_up(&mut self)
+        ensures { client_of self.new ≡ holding (without_reading (client_of self.old).client) (client_of self.old) }
+    {
+        self.reading = None;
+    }
+
+    // its session was evicted, which it prints where it didn't know that the session is closed
+    #[tactic(auto, unfolding(crate::specs::Standing::client_of))]
+    fn evict(&mut self, tx: u64) -> Result<Lines, NoMemory>
+        ensures lines { IfOk result (λ ls. ls ≡ expired_lines (client_of self.old) tx) }
+        ensures client { OnOk result (client_of self.new ≡ seeing (expired_lines (client_of self.old) tx) (evicted (client_of self.old).client) (client_of self.old)) }
+    {
+        let mut lines = Lines::new(self.alloc);
+        self.held = Vec::new(self.alloc);
+        self.give_up();
+        if self.closed {
+            return Ok(lines);
+        }
+        self.closed = true;
+        let line = Line::Expired {
+            session: self.session,
+            tx,
+        };
+        print(self.session, &mut self.seen, &mut lines, line)?;
+        Ok(lines)
+    }
+
+    // a watch fired, which it prints where it holds the watch
+    #[tactic(auto, unfolding(crate::specs::Standing::client_of))]
+    fn notice(&mut self, tx: u64, fired: Fired) -> Result<Lines, NoMemory>
+        ensures lines { IfOk result (λ ls. ls ≡ taken_lines (client_of self.old) (tell.Watch tx fired)) }
+        ensures client { OnOk result (client_of self.new ≡ seeing (taken_lines (client_of self.old) (tell.Watch tx fired)) (taken (tell.Watch tx fired) (client_of self.old).client) (client_of self.old)) }
+    {
+        let mut lines = Lines::new(self.alloc);
+        let is_held = contains(self.held.as_slice(), fired.id);
+        self.give_up();
+        forget(&mut self.held, fired.id);
+        if !is_held {
+            return Ok(lines);
+        }
+        let line = Line::Notice {
+            session: self.session,
+            tx,
+            kind: fired.kind,
+            change: fired.change,
+            path: fired.path,
+        };
+        print(self.session, &mut self.seen, &mut lines, line)?;
+        Ok(lines)
+    }
+}
