@@ -1,5 +1,5 @@
 -- What the answer of a sweep says is what the watches give.
-use Rattle.std.proofs.Common.{◌≡◌, ◌<◌, ◌≤◌, ℕ, Bool, true, false, cond, List, Option, Some, None, Result, Ok, Err, refl, sym, ◌∙◌, ap, subst, arith, length}
+use Rattle.std.proofs.Common.{◌≡◌, ℕ, Bool, true, false, cond, List, Option, Result, Ok, Err, refl, sym, ◌∙◌, ap, subst, arith, length}
 use Rattle.std.specs.Prelude.{nat_lt, IfOk, ⊤}
 use Rattle.std.specs.FinMap.{nat_cmp-IsAntisymmetric}
 use Rattle.std.proofs.lemmas.Bool.Decides.{nat_tests}
@@ -11,9 +11,8 @@ use Rattle.fk_tree.specs.declared.change.Touch.{Touch}
 use Rattle.fk_print.specs.declared.op.Op.{Op}
 use Rattle.fk_print.specs.declared.op.Op.TheVariants as op
 use Rattle.fk_print.specs.declared.op.Word.TheVariants as word
-use Rattle.fk_wire.specs.declared.fired.Fired.{Fired}
 use Rattle.fk_watch.proofs.Uniqueness.{same_fired}
-use Rattle.fk_watch.specs.Answers.{after_sweep, AreFired, IsEpoch, IsSweep}
+use Rattle.fk_watch.specs.Answers.{after_sweep, IsSweep}
 use Rattle.fk_watch.specs.Meaning.{Watches, failed}
 use Rattle.fk_watch.specs.Sweeping.{swept_for}
 use Rattle.fk_watch.specs.declared.answer.Sweep.{Sweep}

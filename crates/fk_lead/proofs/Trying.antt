@@ -1,9 +1,7 @@
 -- A step that a test makes is one that it may make, and leaves room for the next one.
-use Rattle.std.proofs.Common.{◌≡◌, ◌<◌, ◌≤◌, ℕ, ◌+◌, Bool, true, false, cond, List, [], refl, subst, sym, arith}
+use Rattle.std.proofs.Common.{◌≡◌, ◌<◌, ◌≤◌, ℕ, ◌+◌, Bool, true, false, cond, List, refl, subst, sym, arith}
 use Rattle.std.specs.Prelude.{is_some}
 use Rattle.fk_queue.specs.Answers.{ack_of, after_ack}
-use Rattle.fk_queue.specs.Lanes.{is_session}
-use Rattle.fk_queue.specs.Letters.{with_letter}
 use Rattle.fk_queue.specs.Meaning as post
 use Rattle.fk_queue.specs.declared.answer.Ack.{Ack}
 use Rattle.fk_queue.specs.declared.answer.Ack.TheVariants as ack
@@ -16,7 +14,7 @@ use Rattle.fk_wire.specs.NoteText.{note_text}
 use Rattle.fk_wire.specs.TellText.{tell_text}
 use Rattle.fk_wire.specs.declared.version.Version.TheVariants as version
 use Rattle.fk_lead.specs.Fit.{HasSession, IsFit, IsLimited}
-use Rattle.fk_lead.specs.Meaning.{Meaning, is_ended}
+use Rattle.fk_lead.specs.Meaning.{Meaning}
 use Rattle.fk_lead.specs.Services.{note_of, post_after_step, posted, reply_tell, stage_post}
 use Rattle.fk_lead.specs.Tried.{HasRoom, IsSimple}
 

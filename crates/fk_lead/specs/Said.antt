@@ -1,5 +1,5 @@
 -- The operation of each answer, and what came with it.
-use Rattle.std.specs.Prelude.{ℕ, nat_lt, if◌then◌else◌, List, length}
+use Rattle.std.specs.Prelude.{ℕ, nat_lt, if◌then◌else◌, length}
 use Rattle.fk_base.specs.Path.{PathNames}
 use Rattle.fk_print.specs.declared.op.Op.{Op}
 use Rattle.fk_print.specs.declared.op.Op.TheVariants as op

@@ -1,6 +1,6 @@
 //! A leader finishes its push in the table, as dropped or as done.
 
-ghost use Rattle.std.specs.Prelude.{◌≡◌, [], ◌∷◌, true, is_some, IfOk, OnOk};
+ghost use Rattle.std.specs.Prelude.{◌≡◌, true, is_some, IfOk, OnOk};
 ghost use Rattle.fk_print.specs.declared.op.Word.TheVariants as word;
 ghost use Rattle.fk_store.specs.Writes.{are_fit_writes};
 ghost use Rattle.fk_settle.specs.Transaction.{transacted};
@@ -16,7 +16,6 @@ use crate::state::State;
 use fk_base::NoMemory;
 use fk_print::{Op, Word};
 use fk_store::{Cond, Found, Table, Transact, Write};
-use std::alloc::Global;
 
 /// What becomes of finishing a push.
 #[derive(Drop)]

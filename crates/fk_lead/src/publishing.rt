@@ -1,7 +1,6 @@
 //! A leader puts the record of each path that its push edits, and then publishes the push.
 
 ghost use Rattle.std.specs.Prelude.{◌≡◌, ◌≢◌, true, IfOk, OnOk};
-ghost use Rattle.fk_base.specs.Path.{PathNames};
 ghost use Rattle.fk_print.specs.declared.op.Word.TheVariants as word;
 ghost use Rattle.fk_spec.specs.Leader.{to_put};
 ghost use Rattle.fk_spec.specs.Leader as stage;

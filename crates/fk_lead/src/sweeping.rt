@@ -4,7 +4,7 @@ ghost use Rattle.std.specs.Prelude.{◌≡◌, ◌≢◌, IfOk, OnOk};
 ghost use Rattle.fk_print.specs.declared.op.Word.TheVariants as word;
 ghost use Rattle.fk_watch.specs.Kept.{watches_of};
 ghost use Rattle.fk_watch.specs.declared.answer.Sweep.TheVariants as sweep;
-ghost use Rattle.fk_lead.specs.Meaning.{Swept, applied_of, paths_of, touches_of};
+ghost use Rattle.fk_lead.specs.Meaning.{Swept, paths_of, touches_of};
 ghost use Rattle.fk_lead.specs.Next.{having_swept, next_with};
 ghost use Rattle.fk_lead.specs.Operation.{or_fault, sweep_op};
 ghost use Rattle.fk_lead.specs.Said.{sweep_by, swept_by};
@@ -13,7 +13,6 @@ ghost use Rattle.fk_lead.specs.Sweeping.{IsSweepOf, swept_at};
 ghost use Rattle.fk_tree.specs.Touch.{edit_paths, edited_paths};
 
 use crate::leader::Leader;
-use crate::state::State;
 use fk_base::{NoMemory, Path};
 use fk_print::{Op, Word};
 use fk_settle::in_order;

@@ -1,6 +1,6 @@
 //! A leader notifies the watches that its push fired, replies to the client, and acknowledges its message.
 
-ghost use Rattle.std.specs.Prelude.{◌≡◌, ◌+◌, ◌-◌, ◌<◌, ◌^◌, length, true, IfOk, OnOk};
+ghost use Rattle.std.specs.Prelude.{◌≡◌, ◌+◌, ◌-◌, ◌<◌, ◌^◌, true, IfOk, OnOk};
 ghost use Rattle.fk_print.specs.declared.op.Op.TheVariants as op;
 ghost use Rattle.fk_print.specs.declared.op.Word.TheVariants as word;
 ghost use Rattle.fk_queue.specs.Answers.{ack_of, after_ack};

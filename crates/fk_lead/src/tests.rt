@@ -6,7 +6,7 @@ ghost use Rattle.fk_lead.specs.Tried.{HasRoom, IsSimple};
 use crate::Leader;
 use fk_base::{Bytes, NoMemory, Path, Paths};
 use fk_print::{Op, Word};
-use fk_queue::{Lane, Post, Posted};
+use fk_queue::{Lane, Post};
 use fk_store::{ListTable, Seen, Table, Taken};
 use fk_tree::{Mades, Request};
 use fk_user::UserStore;

@@ -1,4 +1,4 @@
-use Rattle.std.proofs.Common.{◌≡◌, ◌∙◌, ap}
+use Rattle.std.proofs.Common.{◌∙◌, ap}
 use Rattle.fk_tree.specs.Touch.{touches}
 use Rattle.fk_watch.specs.Kept.{watches_of}
 use Rattle.fk_lead.proofs.Sweeps.{swept_given, swept_leader, swept_op, swept_watches}
