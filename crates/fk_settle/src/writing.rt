@@ -108,12 +108,12 @@ pub fn refuse_writes(
     session: u32,
     k: u64,
     outcome: Outcome,
-    paths: &[Path],
+    held: &[Path],
 ) -> Result<Vec<Write>, NoMemory>
-    ensures { IfOk result (λ ws. ws.items ≡ refuse_writes session k outcome paths.now) }
+    ensures { IfOk result (λ ws. ws.items ≡ refuse_writes session k outcome held.now) }
 {
     let mut writes = Vec::new(alloc);
-    push_releases(&mut writes, paths)?;
+    push_releases(&mut writes, held)?;
     writes.push(Write::Settle {
         session,
         k,
