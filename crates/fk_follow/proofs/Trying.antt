@@ -1,5 +1,5 @@
 -- A step that a test makes is one that it may make, and leaves room for the next one.
-use Rattle.std.proofs.Common.{◌≡◌, ◌≢◌, ◌<◌, ◌≤◌, ℕ, ◌+◌, Bool, true, false, cond, List, Option, Some, None, refl, subst, sym, ap, ◌∙◌, arith}
+use Rattle.std.proofs.Common.{◌≢◌, ◌<◌, ◌≤◌, ℕ, ◌+◌, Bool, true, false, cond, List, Option, Some, None, refl, subst, sym, ap, ◌∙◌, arith}
 use Rattle.fk_queue.specs.Answers.{ack_of, after_ack}
 use Rattle.fk_queue.specs.Meaning as post
 use Rattle.fk_queue.specs.declared.answer.Ack.{Ack}
@@ -16,7 +16,7 @@ use Rattle.fk_wire.specs.declared.message.Tell.{Tell}
 use Rattle.fk_wire.specs.declared.version.Version.TheVariants as version
 use Rattle.fk_follow.specs.Fit.{HasSession, IsFit, IsLimited}
 use Rattle.fk_follow.specs.Meaning.{Meaning}
-use Rattle.fk_follow.specs.Services.{kept_tell, post_after_step, posted, push_at, stage_post, told}
+use Rattle.fk_follow.specs.Services.{kept_tell, post_after_step, push_at, stage_post, told}
 use Rattle.fk_follow.specs.Tried.{HasKept, HasRoom, IsSimple}
 
 -- ---- it may be made

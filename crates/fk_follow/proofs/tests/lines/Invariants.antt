@@ -1,4 +1,4 @@
-use Rattle.std.proofs.Common.{◌≡◌, ◌≤◌, ◌-◌}
+use Rattle.std.proofs.Common.{◌-◌}
 use Rattle.fk_queue.specs.Posts.{post_of}
 use Rattle.fk_follow.specs.Tried.{HasRoom}
 use Rattle.fk_follow.proofs.tests.lines.Given as goal
