@@ -3,3 +3,4 @@ pub mod Going
 pub mod Items
 pub mod Owning
 pub mod Stages
+pub mod Trying

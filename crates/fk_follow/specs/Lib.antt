@@ -7,4 +7,5 @@ pub mod Reading
 pub mod Said
 pub mod Services
 pub mod Standing
+pub mod Tried
 pub mod Worked

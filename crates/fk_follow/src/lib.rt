@@ -15,6 +15,8 @@ mod state;
 mod stepping;
 mod taking;
 mod telling;
+#[cfg(test)]
+mod tests;
 mod transacting;
 mod worked;
 
