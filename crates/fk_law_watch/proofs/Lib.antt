@@ -1,4 +1,6 @@
+pub mod Handing
 pub mod Listing
+pub mod Noting
 pub mod Registering
 pub mod SetWatches
 pub mod Sweeps

@@ -311,6 +311,9 @@ sound p (e ∷ h) l =
       fired = λ id f a. fired_step p id f e h e.op refl l s a;
     }
 
+pub watches_unique : (p : Plan) (h : List Entry) → IsHistory p h → AreUnique (set_watches p h)
+watches_unique p h l = (sound p h l).unique
+
 -- The laws. --------------------------------------------------------------------------------------------
 
 one_of_two : (b : Bool) (s : Option Watch) (f : Option Firing) (n : Option ℕ) → Status b s f n → b ≡ true → IsOneOfTwo s f

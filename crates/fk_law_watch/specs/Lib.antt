@@ -1,3 +1,4 @@
+pub mod Noting
 pub mod Registering
 pub mod SetWatches
 pub mod Sweeps

@@ -3,10 +3,15 @@
 #![tactic(auto)]
 
 mod last_sweeps;
+mod push_notes;
 mod registrations;
 mod watch_laws;
 
 pub use last_sweeps::{last_sweep_of_a_path, sweeps_rise, swept_of_is_the_greatest, touches_never_change};
+pub use push_notes::{
+    fired_at_its_push, fired_is_listed_until_told, fired_list_in_hand,
+    fired_push_is_noted_before_done, note_tells_what_its_push_fired,
+};
 pub use registrations::watches_are_registered;
 pub use watch_laws::{
     fired_watch_fired_at_its_first_change, fires_once, firing_never_changes,
