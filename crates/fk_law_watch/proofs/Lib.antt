@@ -1,3 +1,4 @@
+pub mod Epochs
 pub mod Handing
 pub mod Listing
 pub mod Noting

@@ -1,3 +1,4 @@
+pub mod Epochs
 pub mod Noting
 pub mod Registering
 pub mod SetWatches
