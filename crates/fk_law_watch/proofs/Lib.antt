@@ -5,3 +5,4 @@ pub mod Noting
 pub mod Registering
 pub mod SetWatches
 pub mod Sweeps
+pub mod Telling

@@ -43,7 +43,7 @@ pub unswept_fired : (p : Plan) (t : ℕ) (h : List Entry) → is_swept t h ≡ f
 unswept_fired p t [] e = refl
 unswept_fired p t (x ∷ h) e = unswept_step p t h x.op (fired_at p t h) e (unswept_fired p t h)
 
-stays_step : (p : Plan) (t : ℕ) (h : List Entry) (o : Op) (fs : List Firing) → sweeps t o ≡ false → fired_at_in p t h o fs ≡ fs
+pub stays_step : (p : Plan) (t : ℕ) (h : List Entry) (o : Op) (fs : List Firing) → sweeps t o ≡ false → fired_at_in p t h o fs ≡ fs
 stays_step p t h (op.SweepOk n s k) fs e = grind arith
 stays_step p t h o fs e = refl
 

@@ -39,7 +39,7 @@ or_stays : {A : Type 0} → (o x : Option A) (n : A) → o ≡ Some n → or_els
 or_stays None x n e = absurd (grind arith)
 or_stays (Some m) x n e = e
 
-or_none : {A : Type 0} → (o : Option A) → or_else o None ≡ o
+pub or_none : {A : Type 0} → (o : Option A) → or_else o None ≡ o
 or_none None = refl
 or_none (Some x) = refl
 

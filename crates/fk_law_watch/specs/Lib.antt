@@ -3,3 +3,4 @@ pub mod Noting
 pub mod Registering
 pub mod SetWatches
 pub mod Sweeps
+pub mod Telling

@@ -2,12 +2,17 @@
 //! without a body.
 #![tactic(auto)]
 
+mod announcements;
 mod epochs_of_watches;
 mod last_sweeps;
 mod push_notes;
 mod registrations;
 mod watch_laws;
 
+pub use announcements::{
+    announced_has_fired, announced_in_number_order, notes_first_stand_in_order,
+    removed_note_is_told, told_push_is_announced,
+};
 pub use epochs_of_watches::{
     epoch_has_fired, leader_holds_a_complete_epoch, untold_fired_watch_is_in_the_epoch,
 };
