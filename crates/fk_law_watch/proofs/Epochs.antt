@@ -1,9 +1,9 @@
 -- Epochs: the numbers of the watches that have fired and aren't told.
-use Rattle.std.specs.Prelude.{◌==◌, ◌||◌, if◌then◌else◌, is_some, max}
+use Rattle.std.specs.Prelude.{◌==◌, ◌||◌, if◌then◌else◌, is_some}
 use Rattle.std.specs.Ordering.{nat_cmp, is_eq}
 use Rattle.std.specs.FinMap.{nat_cmp-IsAntisymmetric}
 use Rattle.std.proofs.lemmas.Cmp.{nat_cmp_total}
-use Rattle.std.proofs.Common.{◌≡◌, ◌≢◌, ℕ, ◌+◌, ◌<◌, ◌≤◌, ◌++◌, Bool, true, false, List, [], ◌∷◌, refl, sym, ◌∙◌, ap, subst, arith, Option, Some, None}
+use Rattle.std.proofs.Common.{◌≡◌, ℕ, ◌<◌, ◌≤◌, ◌++◌, Bool, true, false, List, [], ◌∷◌, refl, sym, ◌∙◌, ap, subst, arith, Option, Some, None}
 use Rattle.std.proofs.lemmas.Bool.{false≢true}
 use Rattle.std.proofs.lemmas.Bool.Decides.{nat_tests}
 use Rattle.fk_base.specs.Path.{PathNames}
@@ -14,10 +14,9 @@ use Rattle.fk_print.specs.declared.op.Op.{Op}
 use Rattle.fk_print.specs.declared.op.Op.TheVariants as op
 use Rattle.fk_spec.specs.Plan.{Plan}
 use Rattle.fk_spec.specs.Start.{or_else}
-use Rattle.fk_spec.specs.Settling.{is_committed, done_of, swept_of, mark_of, mark_in}
+use Rattle.fk_spec.specs.Settling.{is_committed, swept_of, mark_of, mark_in}
 use Rattle.fk_spec.specs.Stored.{committed_as}
 use Rattle.fk_spec.specs.Watches.{Firing, Swept, firings, set_watches, touches_of_push, not_of, fired_after, fired_watches, fired_by, ids_of, epoch_of, sweep_in, swept_or, swept_by, epoch_after, published_epoch, firing_with, firing_in, firing_of}
-use Rattle.fk_spec.specs.Lanes.{leads, removed_by}
 use Rattle.fk_spec.specs.Leader.{next_leader, to_put, to_notify, after_put, paths_to_put}
 use Rattle.fk_spec.specs.Leader as leader
 use Rattle.fk_spec.specs.Client.{contains}
@@ -28,10 +27,9 @@ use Rattle.fk_law.proofs.Due.{due}
 use Rattle.fk_law.proofs.Leading.{leader_stands_where_it_may, mark_behind_sweep, done_is_removed_or_one_more, leader_at_or_below_the_head}
 use Rattle.fk_law.proofs.Moving.{OnLeader, leader_step}
 use Rattle.fk_law.proofs.Starting.{leader_task}
-use Rattle.fk_law_watch.specs.Noting.{is_told, untold, fired_at}
+use Rattle.fk_law_watch.specs.Noting.{untold, fired_at}
 use Rattle.fk_law_watch.specs.Epochs.{HaveFired, IsComplete, HoldsSo, Holds, LeaderHoldsACompleteEpoch, EpochHasFired, UntoldFiredWatchIsInTheEpoch}
 use Rattle.fk_law_watch.proofs.SetWatches.{by_or}
-use Rattle.fk_law_watch.proofs.Sweeps.{swept_most}
 use Rattle.fk_law_watch.proofs.Listing.{fired_of}
 use Rattle.fk_law_watch.proofs.SetWatches.{watches_unique}
 use Rattle.fk_law_watch.proofs.Noting.{fired_is_listed, fired_at_its_push}

@@ -1,6 +1,6 @@
 -- What a leader has in hand of its push's fired watches.
 use Rattle.std.specs.Prelude.{◌==◌, ◌||◌, if◌then◌else◌, max, nat_le}
-use Rattle.std.proofs.Common.{◌≡◌, ◌≢◌, ℕ, ◌+◌, ◌<◌, ◌≤◌, ◌++◌, ◌⊎◌, inl, inr, Bool, true, false, List, [], ◌∷◌, refl, sym, ◌∙◌, ap, subst, arith, Option, Some, None}
+use Rattle.std.proofs.Common.{◌≡◌, ◌≢◌, ℕ, ◌+◌, ◌<◌, ◌≤◌, ◌⊎◌, inl, inr, Bool, true, false, List, [], ◌∷◌, refl, sym, ◌∙◌, ap, subst, arith, Some, None}
 use Rattle.std.proofs.lemmas.Bool.{false≢true}
 use Rattle.std.proofs.lemmas.Bool.Decides.{nat_tests}
 use Rattle.fk_base.specs.Path.{PathNames}
@@ -8,8 +8,8 @@ use Rattle.fk_print.specs.declared.entry.Entry.{Entry}
 use Rattle.fk_print.specs.declared.op.Op.{Op}
 use Rattle.fk_print.specs.declared.op.Op.TheVariants as op
 use Rattle.fk_spec.specs.Plan.{Plan}
-use Rattle.fk_spec.specs.Start.{Leads, or_else}
-use Rattle.fk_spec.specs.Settling.{is_committed, commits, done_of, done_in, swept_of, mark_of, mark_in}
+use Rattle.fk_spec.specs.Start.{or_else}
+use Rattle.fk_spec.specs.Settling.{is_committed, commits, done_of, done_in, mark_of, mark_in}
 use Rattle.fk_spec.specs.Stored.{committed_as}
 use Rattle.fk_spec.specs.Watches.{Firing, Swept, fired_after, fired_watches, fired_by, sweep_in, swept_or, swept_by, epoch_of}
 use Rattle.fk_spec.specs.Lanes.{leads, removed_by}
@@ -20,16 +20,16 @@ use Rattle.fk_spec.specs.Function.{Place, Leading, place_of, actor}
 use Rattle.fk_spec.specs.Next.{IsHistory}
 use Rattle.fk_law.specs.Due.{IsDue}
 use Rattle.fk_law.specs.Losing.{IsDead}
-use Rattle.fk_law.specs.LeaderLane.{sweeps, is_swept, StandsSo, Stands}
+use Rattle.fk_law.specs.LeaderLane.{is_swept, Stands}
 use Rattle.fk_law.proofs.Due.{due}
 use Rattle.fk_law.proofs.Numbers.{at_most, above}
-use Rattle.fk_law.proofs.Leading.{leader_stands_where_it_may, mark_behind_sweep, swept_up_to_the_sweep, done_is_removed_or_one_more, leader_at_or_below_the_head, commits_are_beyond_the_sweep}
+use Rattle.fk_law.proofs.Leading.{leader_stands_where_it_may, swept_up_to_the_sweep, done_is_removed_or_one_more, leader_at_or_below_the_head, commits_are_beyond_the_sweep}
 use Rattle.fk_law.proofs.Moving.{OnLeader, leader_step}
 use Rattle.fk_law.proofs.Starting.{leader_task}
-use Rattle.fk_law_watch.specs.Noting.{fired_at_in, fired_at, tells_all, is_told, notes, is_noted, untold, IsFull, HasInHand, HandsSo, Hands, FiredListInHand, TellsWhatFired, NoteTellsWhatItsPushFired, FiredPushIsNotedBeforeDone}
-use Rattle.fk_law_watch.proofs.Sweeps.{swept_committed, swept_most, swept_was_committed}
-use Rattle.fk_law_watch.proofs.SetWatches.{or_right, by_or}
-use Rattle.fk_law_watch.proofs.Noting.{unswept_fired, fired_stays, IsPublishedNote, stands_swept, note_published, told_published, fired_is_listed}
+use Rattle.fk_law_watch.specs.Noting.{fired_at_in, fired_at, tells_all, is_told, notes, is_noted, untold, IsFull, HasInHand, HandsSo, Hands, FiredListInHand, NoteTellsWhatItsPushFired, FiredPushIsNotedBeforeDone}
+use Rattle.fk_law_watch.proofs.Sweeps.{swept_was_committed}
+use Rattle.fk_law_watch.proofs.SetWatches.{or_right}
+use Rattle.fk_law_watch.proofs.Noting.{unswept_fired, fired_stays, stands_swept, note_published, told_published, fired_is_listed}
 
 -- What a sweep gives, and nothing else does. -----------------------------------------------------------
 

@@ -1,9 +1,8 @@
 -- What a push fired, and the notes and the tellings of it.
-use Rattle.std.specs.Prelude.{◌==◌, ◌||◌, if◌then◌else◌, max, nat_le}
-use Rattle.std.proofs.Common.{◌≡◌, ◌≢◌, ℕ, ◌+◌, ◌<◌, ◌≤◌, ◌++◌, ◌⊎◌, inl, inr, Bool, true, false, List, [], ◌∷◌, refl, sym, ◌∙◌, ap, subst, arith, Option, Some, None}
+use Rattle.std.specs.Prelude.{◌==◌, ◌||◌, if◌then◌else◌}
+use Rattle.std.proofs.Common.{◌≡◌, ℕ, ◌+◌, ◌≤◌, ◌++◌, Bool, true, false, List, [], ◌∷◌, refl, sym, ◌∙◌, ap, subst, arith, Option, Some, None}
 use Rattle.std.proofs.lemmas.Bool.{false≢true}
 use Rattle.std.proofs.lemmas.Bool.Decides.{nat_tests}
-use Rattle.fk_base.specs.Path.{PathNames}
 use Rattle.fk_tree.specs.Watch.{first_taken}
 use Rattle.fk_tree.specs.declared.change.Change.{Change}
 use Rattle.fk_tree.specs.declared.change.Touch.{Touch}
@@ -12,23 +11,22 @@ use Rattle.fk_print.specs.declared.op.Op.{Op}
 use Rattle.fk_print.specs.declared.op.Op.TheVariants as op
 use Rattle.fk_spec.specs.Plan.{Plan}
 use Rattle.fk_spec.specs.Start.{Start, Task, Follows, Leads, Notifies, Probes, started_in, or_else}
-use Rattle.fk_spec.specs.Settling.{is_committed, done_of, swept_of, mark_of, mark_in}
-use Rattle.fk_spec.specs.Watches.{Watch, Firing, Swept, fired_as, firings, not_of, fired_after, fired_watches, fired_by, set_watches, touches_of_push, sweep_in, swept_or, swept_by, epoch_of, firing_of, firing_in, firing_with}
+use Rattle.fk_spec.specs.Settling.{is_committed, mark_of, mark_in}
+use Rattle.fk_spec.specs.Watches.{Watch, Firing, fired_as, firings, not_of, fired_after, fired_watches, fired_by, set_watches, touches_of_push, swept_by, firing_of, firing_in, firing_with}
 use Rattle.fk_spec.specs.Lanes.{notes_of, note_count}
 use Rattle.fk_spec.specs.Leader.{next_leader, to_put, to_notify, after_put}
 use Rattle.fk_spec.specs.Leader as leader
 use Rattle.fk_spec.specs.Teller.{Note, note_of, note_in, to_tell, next_teller}
 use Rattle.fk_spec.specs.Teller as teller
 use Rattle.fk_spec.specs.Heartbeat as heartbeat
-use Rattle.fk_spec.specs.Follower.{Follower}
 use Rattle.fk_spec.specs.Function.{Place, Absent, Following, Leading, Telling, Beating, place_of, place_by, placed, telling, moved, actor, lead_on, tell_on, beat_on}
 use Rattle.fk_spec.specs.Next.{IsHistory}
 use Rattle.fk_law.specs.Due.{IsDue}
-use Rattle.fk_law.specs.LeaderLane.{sweeps, is_swept, StandsSo, Stands}
+use Rattle.fk_law.specs.LeaderLane.{sweeps, is_swept}
 use Rattle.fk_law.proofs.Due.{due}
-use Rattle.fk_law.proofs.Leading.{swept_are_committed, leader_stands_where_it_may, mark_behind_sweep, swept_up_to_the_sweep}
-use Rattle.fk_law.proofs.Moving.{OnLeader, leader_step, place_step, moved_follower, moved_leader}
-use Rattle.fk_law_watch.specs.Noting.{fired_at_in, fired_at, tells_all, is_told, notes, is_noted, untold, IsFull, HasInHand, HandsSo, Hands, FiredIsListedUntilTold, FiredAtItsPush, FiredOfAPush}
+use Rattle.fk_law.proofs.Leading.{leader_stands_where_it_may, mark_behind_sweep, swept_up_to_the_sweep}
+use Rattle.fk_law.proofs.Moving.{place_step, moved_follower, moved_leader}
+use Rattle.fk_law_watch.specs.Noting.{fired_at_in, fired_at, tells_all, is_told, notes, is_noted, untold, FiredIsListedUntilTold, FiredAtItsPush, FiredOfAPush}
 use Rattle.fk_law_watch.proofs.Sweeps.{swept_most}
 use Rattle.fk_law_watch.proofs.Listing.{AreUnique, fired_of}
 use Rattle.fk_law_watch.proofs.SetWatches.{or_right, by_or, new_sweep_beyond, watches_unique, fires_once, fired_watch_fired_at_its_first_change}

@@ -1,13 +1,11 @@
 -- Registrations: what a line that sets a watch says of the entries before it.
 use Rattle.std.specs.Prelude.{◌==◌, nat_lt}
-use Rattle.std.proofs.Common.{◌≡◌, ℕ, ◌+◌, ◌≤◌, Bool, true, false, List, [], ◌∷◌, refl, sym, ◌∙◌, ap, subst, arith, Option, Some, None}
+use Rattle.std.proofs.Common.{◌≡◌, ℕ, ◌+◌, ◌≤◌, Bool, true, false, List, [], ◌∷◌, refl, sym, ap, subst, arith, Option, Some, None}
 use Rattle.std.proofs.lemmas.Bool.{cond_both}
 use Rattle.std.proofs.lemmas.Bool.Decides.{nat_tests}
-use Rattle.fk_base.specs.Path.{PathNames}
 use Rattle.fk_tree.specs.Ask.{path_asked}
 use Rattle.fk_tree.specs.Sorted.{in_path_order}
 use Rattle.fk_tree.specs.Watch.{kind_asked}
-use Rattle.fk_tree.specs.declared.change.Kind.{Kind}
 use Rattle.fk_tree.specs.declared.request.Query.{Query}
 use Rattle.fk_print.specs.declared.entry.Entry.{Entry}
 use Rattle.fk_print.specs.declared.event.Event.{Event}
@@ -19,7 +17,7 @@ use Rattle.fk_spec.specs.Start.{Task, Follows, Leads, Notifies, Probes, Push, st
 use Rattle.fk_spec.specs.Locks as locks
 use Rattle.fk_spec.specs.Locks.{granted, first_passed}
 use Rattle.fk_spec.specs.Settling.{Committed, Refused, Passed, settled_of}
-use Rattle.fk_spec.specs.Watches.{Watch, watch_asked, last_sweep}
+use Rattle.fk_spec.specs.Watches.{watch_asked, last_sweep}
 use Rattle.fk_spec.specs.Lanes.{session_head, leader_head, watch_head, Message, inbox_of}
 use Rattle.fk_spec.specs.Follower.{Follower, follower_op, session_op, commit_op, commit_locked, ack_op}
 use Rattle.fk_spec.specs.Follower as follower
@@ -31,8 +29,8 @@ use Rattle.fk_spec.specs.Heartbeat.{beat_op}
 use Rattle.fk_spec.specs.Heartbeat as heartbeat
 use Rattle.fk_spec.specs.Function.{Place, Absent, Following, Leading, Telling, Beating, place_of, function_op, fault_op}
 use Rattle.fk_spec.specs.Client.{Client, Sent, Reading, Result, Open, Settled, Plain, Expired, client_op, client_of, failed_op, number_read, pong_or, take_or, take_op, look_or, look_sent_or, look_op, watch_or, register_asked, register_for, register_op, watch_number, next_command_op, begin_op, may_begin}
-use Rattle.fk_spec.specs.Next.{IsHistory, next_op, follow_op, lead_op, tell_op, crash_op}
-use Rattle.fk_law_watch.specs.Registering.{number_from, number_of_read, IsRegistration, Registers, WatchesAreRegistered}
+use Rattle.fk_spec.specs.Next.{next_op, follow_op, lead_op, tell_op, crash_op}
+use Rattle.fk_law_watch.specs.Registering.{number_from, number_of_read, Registers, WatchesAreRegistered}
 
 -- Operations that set no watch. -----------------------------------------------------------------------
 

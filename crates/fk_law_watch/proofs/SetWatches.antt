@@ -1,9 +1,9 @@
 -- The watches that are set, and how they fire.
 use Rattle.std.specs.Prelude.{◌==◌, ◌||◌, ◌&&◌, nat_le, if◌then◌else◌, is_some, max}
 use Rattle.std.proofs.Common.{◌≡◌, ℕ, ◌+◌, ◌<◌, ◌≤◌, ◌++◌, ◌⊎◌, inl, inr, Bool, true, false, List, [], ◌∷◌, refl, sym, ◌∙◌, ap, subst, arith, Option, Some, None}
-use Rattle.std.proofs.lemmas.Bool.{false≢true, cond_both}
+use Rattle.std.proofs.lemmas.Bool.{false≢true}
 use Rattle.std.proofs.lemmas.Bool.Decides.{nat_tests}
-use Rattle.fk_base.specs.Path.{PathNames, same_path}
+use Rattle.fk_base.specs.Path.{PathNames}
 use Rattle.fk_tree.specs.Watch.{first_taken, has_touch}
 use Rattle.fk_tree.specs.declared.change.Change.{Change}
 use Rattle.fk_tree.specs.declared.change.Kind.{Kind}
@@ -11,10 +11,10 @@ use Rattle.fk_tree.specs.declared.change.Touch.{Touch}
 use Rattle.fk_print.specs.declared.entry.Entry.{Entry}
 use Rattle.fk_print.specs.declared.op.Op.{Op}
 use Rattle.fk_print.specs.declared.op.Op.TheVariants as op
-use Rattle.fk_spec.specs.Plan.{Plan, asked}
+use Rattle.fk_spec.specs.Plan.{Plan}
 use Rattle.fk_spec.specs.Start.{or_else, when}
 use Rattle.fk_spec.specs.Settling.{is_committed, swept_of}
-use Rattle.fk_spec.specs.Watches.{Watch, Firing, has_id, with_watch, watch_asked, set_after, set_watches, set_number, not_fired, firings, firing_with, firing_in, firing_of, given_of, given_in, touches_of_push, last_sweep}
+use Rattle.fk_spec.specs.Watches.{Watch, Firing, has_id, with_watch, set_after, set_watches, set_number, not_fired, firings, firing_with, firing_in, firing_of, given_of, given_in, touches_of_push}
 use Rattle.fk_spec.specs.Client.{number_or_next}
 use Rattle.fk_spec.specs.Next.{IsHistory}
 use Rattle.fk_law.specs.Due.{IsDue}
@@ -23,7 +23,7 @@ use Rattle.fk_law.proofs.Due.{due}
 use Rattle.fk_law.proofs.Leading.{swept_are_committed}
 use Rattle.fk_law_watch.specs.Registering.{number_of_read, IsRegistration, Registers}
 use Rattle.fk_law_watch.specs.SetWatches.{watch_with, set_watch, registered_in, first_of, taken_of, IsOneOfTwo, WatchIsSetOrFired, SetOrFiredWereGiven, FiresOnce, FiringNeverChanges, SetWatchesDiffer, SawNoChange, SetWatchSawNoChange, FiredAtItsFirst, FiredWatchFiredAtItsFirstChange}
-use Rattle.fk_law_watch.proofs.Listing.{AreUnique, AreApart, has_is, not_fired_has, not_fired_unique, append_unique, append_with, its_number, kept_watch, stays_set, fired_one, fires_none, fires_watch, IsFiredOf, fired_of, not_fired_apart, append_apart, set_number_has, same_differ, is_false}
+use Rattle.fk_law_watch.proofs.Listing.{AreUnique, AreApart, has_is, not_fired_has, not_fired_unique, append_unique, append_with, kept_watch, stays_set, fired_one, fires_none, fires_watch, IsFiredOf, fired_of, not_fired_apart, append_apart, set_number_has, same_differ, is_false}
 use Rattle.fk_law_watch.proofs.Registering.{watches_are_registered}
 use Rattle.fk_law_watch.proofs.Sweeps.{touches_stay, swept_committed, swept_was_committed, swept_most, last_most}
 

@@ -7,10 +7,10 @@ use Rattle.fk_print.specs.declared.entry.Entry.{Entry}
 use Rattle.fk_print.specs.declared.op.Op.{Op}
 use Rattle.fk_print.specs.declared.op.Op.TheVariants as op
 use Rattle.fk_spec.specs.Plan.{Plan}
-use Rattle.fk_spec.specs.Start.{Task, Notifies, task_of, or_else}
+use Rattle.fk_spec.specs.Start.{task_of, or_else}
 use Rattle.fk_spec.specs.Settling.{mark_of, mark_in, done_of}
 use Rattle.fk_spec.specs.Watches.{Firing, firings, set_watches, touches_of_push, ids_of, firing_with, firing_in, firing_of, swept_by}
-use Rattle.fk_spec.specs.Lanes.{leads, notifies, removed_by, removed_in, notes_of, note_count, watch_head}
+use Rattle.fk_spec.specs.Lanes.{notifies, removed_by, removed_in, notes_of, note_count, watch_head}
 use Rattle.fk_spec.specs.Leader as leader
 use Rattle.fk_spec.specs.Client.{contains}
 use Rattle.fk_spec.specs.Teller.{Note, note_of, note_in, to_tell, after_tell, next_teller}

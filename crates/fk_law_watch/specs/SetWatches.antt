@@ -1,6 +1,6 @@
 -- The watches that are set, and how they fire.
 use Rattle.std.specs.Prelude.{◌≡◌, ℕ, ◌==◌, ◌<◌, ◌≤◌, ◌++◌, ◌⊎◌, true, if◌then◌else◌, List, [], ◌∷◌, Option, Some, None, is_some}
-use Rattle.fk_base.specs.Path.{PathNames, same_path}
+use Rattle.fk_base.specs.Path.{same_path}
 use Rattle.fk_tree.specs.Watch.{first_taken, same_kind}
 use Rattle.fk_tree.specs.declared.change.Change.{Change}
 use Rattle.fk_print.specs.declared.entry.Entry.{Entry}

@@ -16,7 +16,9 @@ pub use announcements::{
 pub use epochs_of_watches::{
     epoch_has_fired, leader_holds_a_complete_epoch, untold_fired_watch_is_in_the_epoch,
 };
-pub use last_sweeps::{last_sweep_of_a_path, sweeps_rise, swept_of_is_the_greatest, touches_never_change};
+pub use last_sweeps::{
+    last_sweep_of_a_path, sweeps_rise, swept_of_is_the_greatest, touches_never_change,
+};
 pub use push_notes::{
     fired_at_its_push, fired_is_listed_until_told, fired_list_in_hand,
     fired_push_is_noted_before_done, note_tells_what_its_push_fired,
