@@ -32,61 +32,74 @@ use Rattle.fk_spec.specs.Client.{Client, Sent, Reading, Result, Open, Settled, P
 use Rattle.fk_spec.specs.Next.{next_op, follow_op, lead_op, tell_op, crash_op}
 use Rattle.fk_law_watch.specs.Registering.{number_from, number_of_read, Registers, WatchesAreRegistered}
 
--- Operations that set no watch. -----------------------------------------------------------------------
+-- Operations that no client makes. ---------------------------------------------------------------------
 
-abbrev SetsNone : Op → Type 0
-SetsNone (op.WatchSet c i id) = ⊥
-SetsNone _ = Unit {0}
+abbrev pub NoClients : Op → Type 0
+NoClients (op.WatchSet c i id) = ⊥
+NoClients (op.LookOk c i mark) = ⊥
+NoClients (op.Send c i k) = ⊥
+NoClients (op.SendFault c i) = ⊥
+NoClients (op.Local c i) = ⊥
+NoClients (op.Read c i stamp) = ⊥
+NoClients _ = Unit {0}
 
-locked_none : (n t : ℕ) (o : Option locks.Passed) → SetsNone (commit_locked n t o)
+locked_none : (n t : ℕ) (o : Option locks.Passed) → NoClients (commit_locked n t o)
 locked_none n t None = tt
 locked_none n t (Some x) = tt
 
-commit_none : (h : List Entry) (n t m c k : ℕ) → SetsNone (commit_op h n t m c k)
-commit_none h n t m c k = cond_both (settled_of c h + 1 == k) (commit_locked n t (first_passed m h (in_path_order (granted m h)))) (op.CommitSettled n t (settled_of c h)) SetsNone (λ _. locked_none n t _) (λ _. tt)
+commit_none : (h : List Entry) (n t m c k : ℕ) → NoClients (commit_op h n t m c k)
+commit_none h n t m c k = cond_both (settled_of c h + 1 == k) (commit_locked n t (first_passed m h (in_path_order (granted m h)))) (op.CommitSettled n t (settled_of c h)) NoClients (λ _. locked_none n t _) (λ _. tt)
 
-ack_none : (n own : ℕ) (o : Option ℕ) → SetsNone (ack_op n own o)
+ack_none : (n own : ℕ) (o : Option ℕ) → NoClients (ack_op n own o)
 ack_none n own o = grind (arith, nat_tests)
 
-session_none : (p : Plan) (h : List Entry) (n c k : ℕ) → SetsNone (session_op p h n c k)
+session_none : (p : Plan) (h : List Entry) (n c k : ℕ) → NoClients (session_op p h n c k)
 session_none p h n c k = grind (arith, nat_tests)
 
-follower_none : (p : Plan) (h : List Entry) (n : ℕ) (f : Follower) (s : follower.Stage) → SetsNone (follower_op p h n f s)
+follower_none : (p : Plan) (h : List Entry) (n : ℕ) (f : Follower) (s : follower.Stage) → NoClients (follower_op p h n f s)
 follower_none p h n f follower.Session = session_none p h n f.session f.k
 follower_none p h n f (follower.Commit t) = commit_none h n t n f.session f.k
 follower_none p h n f follower.Ack = ack_none n f.k (session_head f.session h)
 follower_none p h n f s = grind (arith, nat_tests)
 
-task_none : (o : Option Task) (g : ℕ → ℕ → Op) → ((c k : ℕ) → SetsNone (g c k)) → SetsNone (for_task o g)
+task_none : (o : Option Task) (g : ℕ → ℕ → Op) → ((c k : ℕ) → NoClients (g c k)) → NoClients (for_task o g)
 task_none None g f = tt
 task_none (Some (Follows c k)) g f = f c k
 task_none (Some (Leads t)) g f = tt
 task_none (Some (Notifies w)) g f = tt
 task_none (Some (Probes c)) g f = tt
 
-push_none : (h : List Entry) (o : Option Push) (g : ℕ → ℕ → ℕ → Op) → ((n c k : ℕ) → SetsNone (g n c k)) → SetsNone (for_push h o g)
+push_none : (h : List Entry) (o : Option Push) (g : ℕ → ℕ → ℕ → Op) → ((n c k : ℕ) → NoClients (g n c k)) → NoClients (for_push h o g)
 push_none h None g f = tt
 push_none h (Some x) g f = task_none (task_of x.function h) (λ c k. g x.function c k) (λ c k. f x.function c k)
 
-leader_none : (p : Plan) (h : List Entry) (n t : ℕ) (s : leader.Stage) → SetsNone (leader_op p h n t s)
+leader_none : (p : Plan) (h : List Entry) (n t : ℕ) (s : leader.Stage) → NoClients (leader_op p h n t s)
 leader_none p h n t leader.Commit = push_none h (push_of t h) (λ m c k. commit_op h n t m c k) (λ m c k. commit_none h n t m c k)
 leader_none p h n t leader.Reply = push_none h (push_of t h) (λ m c k. op.Reply n c k) (λ m c k. tt)
 leader_none p h n t leader.Ack = ack_none n t (leader_head h)
 leader_none p h n t s = grind (arith, nat_tests)
 
-teller_none : (h : List Entry) (n w t : ℕ) (s : teller.Stage) → SetsNone (teller_op h n w t s)
+teller_none : (h : List Entry) (n w t : ℕ) (s : teller.Stage) → NoClients (teller_op h n w t s)
 teller_none h n w t teller.Ack = ack_none n w (watch_head h)
 teller_none h n w t s = tt
 
-beat_none : (p : Plan) (h : List Entry) (n c : ℕ) (s : heartbeat.Stage) → SetsNone (beat_op p h n c s)
+beat_none : (p : Plan) (h : List Entry) (n c : ℕ) (s : heartbeat.Stage) → NoClients (beat_op p h n c s)
 beat_none p h n c s = grind (arith, nat_tests)
 
-function_none : (p : Plan) (h : List Entry) (n : ℕ) (x : Place) → SetsNone (function_op p h n x)
+pub function_none : (p : Plan) (h : List Entry) (n : ℕ) (x : Place) → NoClients (function_op p h n x)
 function_none p h n Absent = tt
 function_none p h n (Following f) = follower_none p h n f f.stage
 function_none p h n (Leading t s) = leader_none p h n t s
 function_none p h n (Telling w t s) = teller_none h n w t s
 function_none p h n (Beating c s) = beat_none p h n c s
+
+no_client_registers : (p : Plan) (h : List Entry) (o : Op) → NoClients o → Registers p h o
+no_client_registers p h (op.WatchSet c i id) d = absurd d
+no_client_registers p h o d = tt
+
+abbrev SetsNone : Op → Type 0
+SetsNone (op.WatchSet c i id) = ⊥
+SetsNone _ = Unit {0}
 
 none_registers : (p : Plan) (h : List Entry) (o : Op) → SetsNone o → Registers p h o
 none_registers p h (op.WatchSet c i id) d = absurd d
@@ -178,35 +191,35 @@ failed_registers p h o = none_registers p h (failed_op o) (none o)
 
 -- Entries. --------------------------------------------------------------------------------------------
 
-follow_none : (n c : ℕ) (o : Option ℕ) → SetsNone (follow_op n c o)
+pub follow_none : (n c : ℕ) (o : Option ℕ) → NoClients (follow_op n c o)
 follow_none n c None = tt
 follow_none n c (Some k) = tt
 
-lead_none : (n : ℕ) (o : Option ℕ) → SetsNone (lead_op n o)
+pub lead_none : (n : ℕ) (o : Option ℕ) → NoClients (lead_op n o)
 lead_none n None = tt
 lead_none n (Some t) = tt
 
-tell_none : (n : ℕ) (o : Option ℕ) → SetsNone (tell_op n o)
+pub tell_none : (n : ℕ) (o : Option ℕ) → NoClients (tell_op n o)
 tell_none n None = tt
 tell_none n (Some w) = tt
 
-crash_none : (n : ℕ) (x : Place) → SetsNone (crash_op n x)
+pub crash_none : (n : ℕ) (x : Place) → NoClients (crash_op n x)
 crash_none n Absent = tt
 crash_none n x = tt
 
-fault_none : (n : ℕ) (x : Place) → SetsNone (fault_op n x)
+pub fault_none : (n : ℕ) (x : Place) → NoClients (fault_op n x)
 fault_none n Absent = tt
 fault_none n x = tt
 
 event_registers : (p : Plan) (h : List Entry) (v : Event) → Registers p h (next_op p h v)
 event_registers p h (event.Client c) = client_registers p h c
-event_registers p h (event.Deliver c) = none_registers p h (follow_op (starts_of h + 1) c (session_head c h)) (follow_none (starts_of h + 1) c (session_head c h))
-event_registers p h event.Leader = none_registers p h (lead_op (starts_of h + 1) (leader_head h)) (lead_none (starts_of h + 1) (leader_head h))
-event_registers p h event.Watch = none_registers p h (tell_op (starts_of h + 1) (watch_head h)) (tell_none (starts_of h + 1) (watch_head h))
+event_registers p h (event.Deliver c) = no_client_registers p h (follow_op (starts_of h + 1) c (session_head c h)) (follow_none (starts_of h + 1) c (session_head c h))
+event_registers p h event.Leader = no_client_registers p h (lead_op (starts_of h + 1) (leader_head h)) (lead_none (starts_of h + 1) (leader_head h))
+event_registers p h event.Watch = no_client_registers p h (tell_op (starts_of h + 1) (watch_head h)) (tell_none (starts_of h + 1) (watch_head h))
 event_registers p h (event.Beat c) = tt
-event_registers p h (event.Step n) = none_registers p h (function_op p h n (place_of p n h)) (function_none p h n (place_of p n h))
-event_registers p h (event.Crash n) = none_registers p h (crash_op n (place_of p n h)) (crash_none n (place_of p n h))
-event_registers p h (event.Fail n) = none_registers p h (fault_op n (place_of p n h)) (fault_none n (place_of p n h))
+event_registers p h (event.Step n) = no_client_registers p h (function_op p h n (place_of p n h)) (function_none p h n (place_of p n h))
+event_registers p h (event.Crash n) = no_client_registers p h (crash_op n (place_of p n h)) (crash_none n (place_of p n h))
+event_registers p h (event.Fail n) = no_client_registers p h (fault_op n (place_of p n h)) (fault_none n (place_of p n h))
 event_registers p h (event.FailClient c) = failed_registers p h (client_op p c h)
 event_registers p h (event.Clock moment) = tt
 

@@ -35,7 +35,7 @@ pub or_right : (a b : Bool) → b ≡ true → (a || b) ≡ true
 or_right true b e = refl
 or_right false b e = e
 
-or_stays : {A : Type 0} → (o x : Option A) (n : A) → o ≡ Some n → or_else o x ≡ Some n
+pub or_stays : {A : Type 0} → (o x : Option A) (n : A) → o ≡ Some n → or_else o x ≡ Some n
 or_stays None x n e = absurd (grind arith)
 or_stays (Some m) x n e = e
 

@@ -375,7 +375,7 @@ announced_has_fired p id (e ∷ h) l a = announced_step p id e h e.op l (due p e
 none_some : (f : Firing) → None ≡ Some f → ⊥
 none_some f e = grind arith
 
-newly_fired : (p : Plan) (id : ℕ) (h : List Entry) (f : Firing) (o : Op) → IsHistory p h → firing_of p id h ≡ None → or_else (firing_in p id h o) (firing_of p id h) ≡ Some f → sweeps f.tx o ≡ true
+pub newly_fired : (p : Plan) (id : ℕ) (h : List Entry) (f : Firing) (o : Op) → IsHistory p h → firing_of p id h ≡ None → or_else (firing_in p id h o) (firing_of p id h) ≡ Some f → sweeps f.tx o ≡ true
 newly_fired p id h f (op.SweepOk n s k) l b c = same (fired_of id s (touches_of_push p s h) (set_watches p h) f (watches_unique p h l) (sym (or_none (firing_with id (firings s (touches_of_push p s h) (set_watches p h)))) ∙ ap (or_else (firing_with id (firings s (touches_of_push p s h) (set_watches p h)))) (sym b) ∙ c)).1
   where
     same : f.tx ≡ s → (s == f.tx) ≡ true

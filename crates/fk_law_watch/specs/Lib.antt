@@ -1,4 +1,5 @@
 pub mod Epochs
+pub mod FirstNumbers
 pub mod Noting
 pub mod Registering
 pub mod SetWatches

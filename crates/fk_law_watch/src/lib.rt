@@ -5,6 +5,7 @@
 mod announcements;
 mod epochs_of_watches;
 mod last_sweeps;
+mod number_of_registration;
 mod push_notes;
 mod registrations;
 mod watch_laws;
@@ -18,6 +19,9 @@ pub use epochs_of_watches::{
 };
 pub use last_sweeps::{
     last_sweep_of_a_path, sweeps_rise, swept_of_is_the_greatest, touches_never_change,
+};
+pub use number_of_registration::{
+    deployments_read_by_reads, fires_beyond_its_first, watches_are_set_up_to_the_mark,
 };
 pub use push_notes::{
     fired_at_its_push, fired_is_listed_until_told, fired_list_in_hand,
