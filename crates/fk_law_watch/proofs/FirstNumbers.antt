@@ -1,6 +1,6 @@
 -- A watch's first number: it is published when the watch is set, and the watch fires beyond it.
-use Rattle.std.specs.Prelude.{◌==◌, if◌then◌else◌}
-use Rattle.std.proofs.Common.{◌≡◌, ℕ, zero, suc, ◌<◌, ◌≤◌, ◌⊎◌, inl, inr, Bool, true, false, List, [], ◌∷◌, refl, sym, ◌∙◌, ap, subst, arith, Option, Some, None}
+use Rattle.std.specs.Prelude.{◌==◌}
+use Rattle.std.proofs.Common.{◌≡◌, ℕ, zero, suc, ◌<◌, ◌≤◌, Bool, true, false, List, [], ◌∷◌, refl, sym, ◌∙◌, ap, subst, arith, Option, Some, None}
 use Rattle.std.proofs.lemmas.Bool.{false≢true, cond_both}
 use Rattle.std.proofs.lemmas.Bool.Decides.{nat_tests}
 use Rattle.fk_base.specs.Path.{PathNames, is_root}
@@ -13,12 +13,11 @@ use Rattle.fk_print.specs.declared.op.Op.TheVariants as op
 use Rattle.fk_script.specs.declared.command.Command.{Command}
 use Rattle.fk_script.specs.declared.command.Command.TheVariants as command
 use Rattle.fk_script.specs.declared.deployment.Block.{Block}
-use Rattle.fk_script.specs.declared.deployment.Deployment.{Deployment}
-use Rattle.fk_spec.specs.Plan.{Plan, Ask, Want, Unfit, Writes, Reads, asked, asks_of, all_asks, ask_of, want_of, verb_of, at_path, want_delete, want_multi, parts_of, path_within, path_limit, is_small, item_after, nth, or_empty, plan_of}
+use Rattle.fk_spec.specs.Plan.{Plan, Ask, Want, Unfit, Writes, Reads, asks_of, all_asks, ask_of, want_of, at_path, want_delete, want_multi, parts_of, path_within, path_limit, is_small, item_after, nth, or_empty}
 use Rattle.fk_spec.specs.Start.{or_else, when}
-use Rattle.fk_spec.specs.Settling.{swept_of, mark_of, mark_in}
+use Rattle.fk_spec.specs.Settling.{mark_of, mark_in}
 use Rattle.fk_spec.specs.Client.{is_write}
-use Rattle.fk_spec.specs.Watches.{Firing, firing_of, firing_in}
+use Rattle.fk_spec.specs.Watches.{Firing, firing_of}
 use Rattle.fk_spec.specs.Next.{IsHistory}
 use Rattle.fk_law.specs.Due.{IsDue}
 use Rattle.fk_law.specs.LeaderLane.{sweeps}

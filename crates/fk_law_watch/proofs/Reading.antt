@@ -1,6 +1,6 @@
 -- A client's read: it is made while no command is unanswered, and it was looked at before its watch is set.
 use Rattle.std.specs.Prelude.{◌==◌, nat_lt, if◌then◌else◌, max}
-use Rattle.std.proofs.Common.{◌≡◌, ◌≢◌, ℕ, ◌+◌, ◌<◌, ◌≤◌, ◌++◌, Bool, true, false, List, [], ◌∷◌, refl, sym, ◌∙◌, ap, subst, arith, Option, Some, None}
+use Rattle.std.proofs.Common.{◌≡◌, ℕ, ◌+◌, ◌≤◌, ◌++◌, Bool, true, false, List, [], ◌∷◌, refl, sym, ◌∙◌, ap, subst, arith, Option, Some, None}
 use Rattle.std.proofs.lemmas.Bool.{false≢true, cond_both}
 use Rattle.std.proofs.lemmas.Bool.Decides.{nat_tests}
 use Rattle.fk_tree.specs.Ask.{path_asked}
@@ -22,7 +22,7 @@ use Rattle.fk_spec.specs.Stored.{committed_as, stamp_of}
 use Rattle.fk_spec.specs.Watches.{Firing, firing_of, last_sweep}
 use Rattle.fk_spec.specs.Lanes.{session_head, leader_head, watch_head, Message, Done, Evicted, Kept, Watch, Ping, inbox_of}
 use Rattle.fk_spec.specs.Function.{place_of, function_op, fault_op}
-use Rattle.fk_spec.specs.Client.{Client, Sent, Reading, Result, Open, Settled, Plain, Expired, all_go_on, watch_number, is_close, client_of, client_by, client_in, client_op, failed_op, acted, flushed, without_ready, ready_first, looked, looked_for, looked_at, close_if, answered, settle_kept, kept_outcome, registers, contains, pong_or, take_or, take_op, look_or, look_sent_or, look_op, held_op, first_held, number_read, watch_or, register_asked, register_for, register_op, next_command_op, begin_op, local_if, may_begin, is_none_sent, is_write}
+use Rattle.fk_spec.specs.Client.{Client, Sent, Reading, Result, Open, Settled, Plain, Expired, all_go_on, watch_number, is_close, client_of, client_by, client_in, client_op, failed_op, acted, flushed, without_ready, ready_first, looked_for, looked_at, close_if, settle_kept, kept_outcome, registers, contains, pong_or, take_or, take_op, look_or, look_sent_or, look_op, held_op, number_read, watch_or, register_asked, register_for, next_command_op, begin_op, local_if, may_begin, is_none_sent, is_write}
 use Rattle.fk_spec.specs.Replies.{client_lines, own_lines, reply_lines, reply_line, first_line, looked_lines, read_line, read_lines, notice_of}
 use Rattle.fk_spec.specs.Next.{IsHistory, next_op, next_lines, lines_of_client, tx_lines, follow_op, lead_op, tell_op, crash_op}
 use Rattle.fk_law_watch.specs.FirstNumbers.{ReadsAreReads, WatchesAreSetUpToTheMark}
