@@ -1,4 +1,4 @@
--- A client's read: it is made while no command is unanswered, and it was looked at before its watch is set.
+-- A client's read is made while no command is unanswered, and is looked at before its watch is set.
 use Rattle.std.specs.Prelude.{◌==◌, nat_lt, if◌then◌else◌, max}
 use Rattle.std.proofs.Common.{◌≡◌, ℕ, ◌+◌, ◌≤◌, ◌++◌, Bool, true, false, List, [], ◌∷◌, refl, sym, ◌∙◌, ap, subst, arith, Option, Some, None}
 use Rattle.std.proofs.lemmas.Bool.{false≢true, cond_both}

@@ -48,7 +48,7 @@ WatchIsSetOrFired = (p : Plan) (id : ℕ) (h : List Entry) → IsHistory p h →
 abbrev pub SetOrFiredWereGiven : Type 0
 SetOrFiredWereGiven = (p : Plan) (id : ℕ) (h : List Entry) → IsHistory p h → (is_some (set_watch p id h) ≡ true) ⊎ (is_some (firing_of p id h) ≡ true) → (1 ≤ id) × (id ≤ given_of h)
 
--- A watch has its number, and what it fired as never changes.
+-- A watch fires at most once, and what it fired as never changes.
 abbrev pub FiresOnce : Type 0
 FiresOnce = (p : Plan) (id n t fired : ℕ) (h : List Entry) (f : Firing) → IsHistory p h → IsDue p h (op.SweepOk n t fired) → firing_of p id h ≡ Some f → firing_in p id h (op.SweepOk n t fired) ≡ None
 
