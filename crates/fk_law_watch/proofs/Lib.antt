@@ -1,0 +1,10 @@
+pub mod Epochs
+pub mod FirstNumbers
+pub mod Handing
+pub mod Listing
+pub mod Noting
+pub mod Reading
+pub mod Registering
+pub mod SetWatches
+pub mod Sweeps
+pub mod Telling
