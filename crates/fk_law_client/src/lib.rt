@@ -1,0 +1,7 @@
+//! Laws of inboxes and clients that hold in every history that the rules allow. Each law is the clause of a
+//! function without a body.
+#![tactic(auto)]
+
+mod inboxes;
+
+pub use inboxes::inbox_messages_are_true;
