@@ -1,1 +1,4 @@
+pub mod Acting
 pub mod Messages
+pub mod Verbs
+pub mod Viewing

@@ -76,7 +76,7 @@ reply_true p n c k h m l d q = by_place (place_of p n h) refl d
     by_place (Telling w t s) e i = absurd i
     by_place (Beating s b) e i = absurd i
 
-same_number : (s c : ℕ) → (s == c) ≡ true → s ≡ c
+pub same_number : (s c : ℕ) → (s == c) ≡ true → s ≡ c
 same_number s c e = grind (arith, nat_tests)
 
 posted_true : (p : Plan) (c : ℕ) (h : List Entry) (o : Op) (m : Message) → IsHistory p h → IsDue p h o → posted_in p c h o ≡ Some m → IsTrueMessage p c h m

@@ -3,5 +3,7 @@
 #![tactic(auto)]
 
 mod inboxes;
+mod views;
 
 pub use inboxes::inbox_messages_are_true;
+pub use views::{deployments_write_by_writes, view_never_falls};
