@@ -1,4 +1,5 @@
 pub mod Acting
+pub mod Keeping
 pub mod Messages
 pub mod Verbs
 pub mod Viewing
