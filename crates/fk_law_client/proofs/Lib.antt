@@ -1,5 +1,6 @@
 pub mod Acting
 pub mod Keeping
 pub mod Messages
+pub mod Tracking
 pub mod Verbs
 pub mod Viewing

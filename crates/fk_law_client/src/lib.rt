@@ -3,7 +3,9 @@
 #![tactic(auto)]
 
 mod inboxes;
+mod sent_commands;
 mod views;
 
 pub use inboxes::inbox_messages_are_true;
+pub use sent_commands::sent_commands_are_tracked;
 pub use views::{deployments_write_by_writes, view_never_falls};
