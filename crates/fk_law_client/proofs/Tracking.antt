@@ -214,7 +214,7 @@ kept_true p c k h (Committed t) i = absurd (i.1 tt)
 kept_true p c k h (Refused cd place at) i = i.0
 kept_true p c k h (Passed loss) i = i.0
 
-first_true : (p : Plan) (c : ℕ) (h : List Entry) (ms rest : List Message) (m : Message) → ms ≡ m ∷ rest → AreTrueMessages p c h ms → IsTrueMessage p c h m
+pub first_true : (p : Plan) (c : ℕ) (h : List Entry) (ms rest : List Message) (m : Message) → ms ≡ m ∷ rest → AreTrueMessages p c h ms → IsTrueMessage p c h m
 first_true p c h ms rest m e i = (subst (AreTrueMessages p c h) e i).0
 
 kept_first : (p : Plan) (c k : ℕ) (e : Entry) (h : List Entry) (ms rest : List Message) (o : Outcome) → IsHistory p (e ∷ h) → ms ≡ Kept k o ∷ rest → AreTrueMessages p c h ms → (w : Outcome) → kept_outcome ms ≡ Some w → IsTrueResult p c k (e ∷ h) (Settled w)

@@ -1,3 +1,4 @@
 pub mod Inboxes
+pub mod Shown
 pub mod Tracking
 pub mod Views

@@ -4,8 +4,10 @@
 
 mod inboxes;
 mod sent_commands;
+mod shown_numbers;
 mod views;
 
 pub use inboxes::inbox_messages_are_true;
 pub use sent_commands::sent_commands_are_tracked;
+pub use shown_numbers::seen_is_published;
 pub use views::{deployments_write_by_writes, view_never_falls};
