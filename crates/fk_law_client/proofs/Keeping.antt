@@ -1,5 +1,5 @@
 -- A follower tells an outcome that isn't a commit.
-use Rattle.std.proofs.Common.{◌≡◌, ℕ, ◌+◌, ◌≤◌, List, [], ◌∷◌, refl, sym, ◌∙◌, ap, subst, arith, Option, Some, None}
+use Rattle.std.proofs.Common.{◌≡◌, ℕ, ◌+◌, ◌≤◌, List, [], ◌∷◌, sym, ◌∙◌, ap, subst, arith, Option, Some}
 use Rattle.std.proofs.lemmas.Bool.Decides.{nat_tests}
 use Rattle.fk_print.specs.declared.entry.Entry.{Entry}
 use Rattle.fk_print.specs.declared.op.Op.{Op}
@@ -7,10 +7,10 @@ use Rattle.fk_print.specs.declared.op.Op.TheVariants as op
 use Rattle.fk_spec.specs.Plan.{Plan}
 use Rattle.fk_spec.specs.Start.{Task, Follows, task_of, session_followed}
 use Rattle.fk_spec.specs.Locks.{loss_of}
-use Rattle.fk_spec.specs.Settling.{Settling, Outcome, Committed, Refused, Passed, settled_of, settling, settled_in, outcome_of, outcome_here}
+use Rattle.fk_spec.specs.Settling.{Outcome, Refused, Passed, settled_of, settling, settled_in, outcome_of, outcome_here}
 use Rattle.fk_spec.specs.Follower.{Follower}
 use Rattle.fk_spec.specs.Follower as follower
-use Rattle.fk_spec.specs.Function.{Place, Following, place_of, actor}
+use Rattle.fk_spec.specs.Function.{Following, place_of, actor}
 use Rattle.fk_spec.specs.Next.{IsHistory}
 use Rattle.fk_law.specs.Due.{IsDue, IsApplied}
 use Rattle.fk_law.specs.Progress.{Progress, Asks, Works, Expires, Commits, Loses, Replies, Acks, Ends, progress, progress_after}

@@ -1,13 +1,13 @@
 -- What the messages of an inbox say of requests.
 use Rattle.std.specs.Prelude.{◌==◌, if◌then◌else◌, ◌||◌}
-use Rattle.std.proofs.Common.{◌≡◌, ℕ, ◌≤◌, ◌++◌, Bool, true, false, List, [], ◌∷◌, refl, sym, ◌∙◌, ap, subst, arith, Option, Some, None}
+use Rattle.std.proofs.Common.{◌≡◌, ℕ, ◌++◌, Bool, true, false, List, [], ◌∷◌, refl, sym, ◌∙◌, ap, subst, arith, Option, Some, None}
 use Rattle.std.proofs.lemmas.Bool.Decides.{nat_tests}
 use Rattle.fk_print.specs.declared.entry.Entry.{Entry}
 use Rattle.fk_print.specs.declared.op.Op.{Op}
 use Rattle.fk_print.specs.declared.op.Op.TheVariants as op
 use Rattle.fk_spec.specs.Plan.{Plan}
 use Rattle.fk_spec.specs.Start.{when, task_of, request_of}
-use Rattle.fk_spec.specs.Settling.{Outcome, is_committed, mark_of, outcome_of}
+use Rattle.fk_spec.specs.Settling.{Outcome, outcome_of}
 use Rattle.fk_spec.specs.Lanes.{Message, Done, Evicted, Kept, Watch, Ping, inbox_of, inbox_after, with_posted, without_first, posted_in, reply_message, kept_message, takes, is_evict}
 use Rattle.fk_spec.specs.Leader as leader
 use Rattle.fk_spec.specs.Function.{Place, Absent, Following, Leading, Telling, Beating, place_of}

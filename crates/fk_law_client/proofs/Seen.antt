@@ -1,5 +1,5 @@
 -- What a client was shown is published.
-use Rattle.std.specs.Prelude.{◌==◌, if◌then◌else◌, ◌&&◌, max}
+use Rattle.std.specs.Prelude.{◌==◌, ◌&&◌, max}
 use Rattle.std.proofs.Common.{◌≡◌, ℕ, ◌+◌, ◌≤◌, ◌++◌, Bool, true, false, List, [], ◌∷◌, refl, sym, ◌∙◌, ap, subst, arith, Option, Some, None}
 use Rattle.std.proofs.lemmas.Bool.{false≢true, cond_both}
 use Rattle.std.proofs.lemmas.Bool.Decides.{nat_tests}
@@ -22,23 +22,22 @@ use Rattle.fk_print.specs.declared.op.Op.TheVariants as op
 use Rattle.fk_spec.specs.Plan.{Plan, Ask, Want, Unfit, Writes, Reads, asked}
 use Rattle.fk_spec.specs.Shown.{seen_by, seen_in, seen_lines, shown_number, number_or}
 use Rattle.fk_spec.specs.Locks.{Loss}
-use Rattle.fk_spec.specs.Settling.{Outcome, Committed, Refused, Passed, mark_of, mark_in}
+use Rattle.fk_spec.specs.Settling.{Outcome, Committed, Refused, Passed, mark_of}
 use Rattle.fk_spec.specs.Stored.{committed_as}
 use Rattle.fk_spec.specs.Watches.{Firing, firing_of}
-use Rattle.fk_spec.specs.Lanes.{Message, Done, Evicted, Kept, Watch, Ping, inbox_of}
+use Rattle.fk_spec.specs.Lanes.{Message, Evicted, Watch, inbox_of}
 use Rattle.fk_spec.specs.Client.{Client, Sent, Reading, Result, Open, Settled, Plain, Expired, number_looked_for, with_result, is_open, is_ready, ready_first, settle_kept, kept_outcome, contains, is_unfit, local_result, registers, is_close, close_if, looked_for, looked_at, looked, acted, client_in, client_of}
-use Rattle.fk_spec.specs.Replies.{shown_result, shown_applied, shown_reply, shown_loss, line_for, reply_line, reply_lines, first_line, shown_answer, shown_read, shown_asked, read_line, read_lines, looked_lines, notice_of, failed_line, own_lines, client_lines}
+use Rattle.fk_spec.specs.Replies.{shown_result, shown_applied, shown_reply, shown_loss, line_for, reply_line, reply_lines, first_line, shown_answer, shown_read, shown_asked, read_line, read_lines, looked_lines, notice_of, own_lines, client_lines}
 use Rattle.fk_spec.specs.Next.{IsHistory, next_lines}
 use Rattle.fk_law.specs.Due.{IsDue}
 use Rattle.fk_law.proofs.Due.{due}
 use Rattle.fk_law_watch.specs.FirstNumbers.{ReadsAreReads}
 use Rattle.fk_law_watch.proofs.Reading.{ReadSo, reads_so, seen_append, client_unseen, none_unseen, next_is, mark_grows}
 use Rattle.fk_law_watch.proofs.Telling.{announced_has_fired}
-use Rattle.fk_law_client.specs.Inboxes.{IsTrueMessage, AreTrueMessages}
 use Rattle.fk_law_client.specs.Shown.{SeenIsPublished}
-use Rattle.fk_law_client.specs.Tracking.{IsTrueResult, later, AreTracked, KeepsTrack}
+use Rattle.fk_law_client.specs.Tracking.{IsTrueResult, later, AreTracked}
 use Rattle.fk_law_client.proofs.Acting.{ActsAs, LooksSo, IsUpTo, HeadUpTo, IsLooked, entry_acts}
-use Rattle.fk_law_client.proofs.Messages.{some_same, none_some, same_number, inbox_messages}
+use Rattle.fk_law_client.proofs.Messages.{some_same, same_number, inbox_messages}
 use Rattle.fk_law_client.proofs.Tracking.{first_true, sent_tracked}
 
 -- Lines that show numbers up to a mark. ----------------------------------------------------------------
@@ -57,7 +56,7 @@ number_up m n (Some k) i a = grind (arith, nat_tests)
 line_up : (p : Plan) (c i m : ℕ) (s : Shown) → IsUpTo m (shown_number s) → ShowUpTo c m (line_for p c i s ∷ [])
 line_up p c i m s u n a = cond_both (c == c) (number_or n (shown_number s)) n (λ z. z ≤ m) (λ _. number_up m n (shown_number s) u a) (λ _. a)
 
-max_up : (a b m : ℕ) → a ≤ m → b ≤ m → max a b ≤ m
+pub max_up : (a b m : ℕ) → a ≤ m → b ≤ m → max a b ≤ m
 max_up a b m i j = grind (arith, nat_tests)
 
 -- Numbers that are shown. ------------------------------------------------------------------------------

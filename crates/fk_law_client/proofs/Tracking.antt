@@ -1,5 +1,5 @@
 -- What a client keeps of the commands that it sent or refused itself.
-use Rattle.std.specs.Prelude.{◌==◌, ◌<◌, if◌then◌else◌, ◌&&◌, max}
+use Rattle.std.specs.Prelude.{◌==◌, ◌<◌, ◌&&◌}
 use Rattle.std.proofs.Common.{◌≡◌, ℕ, ◌+◌, ◌≤◌, ◌⊎◌, inl, inr, ◌++◌, Bool, true, false, List, [], ◌∷◌, refl, sym, ◌∙◌, ap, subst, arith, Option, Some, None}
 use Rattle.std.proofs.lemmas.Bool.{false≢true, cond_both}
 use Rattle.std.proofs.lemmas.Bool.Decides.{nat_tests}
@@ -10,15 +10,13 @@ use Rattle.fk_print.specs.declared.op.Op.{Op}
 use Rattle.fk_print.specs.declared.op.Op.TheVariants as op
 use Rattle.fk_spec.specs.Plan.{Plan, Ask, Want, Unfit, Writes, Reads, asked}
 use Rattle.fk_spec.specs.Shown.{seen_by, seen_in, seen_lines}
-use Rattle.fk_spec.specs.Start.{sends_of, origin_of, origin_here, sent_in, count_sent}
-use Rattle.fk_spec.specs.Start as start
-use Rattle.fk_spec.specs.Settling.{Outcome, Committed, Refused, Passed, outcome_of, mark_of}
-use Rattle.fk_spec.specs.Lanes.{Message, Done, Evicted, Kept, Watch, Ping, inbox_of}
-use Rattle.fk_spec.specs.Client.{Client, Sent, Reading, Result, Open, Settled, Plain, Expired, with_result, is_open, is_ready, without_ready, settle_with, settle_kept, kept_outcome, is_unfit, local_result, registers, is_close, close_if, looked_for, looked_at, looked, answered, acted, flushed, client_in, client_by, client_of, is_write}
+use Rattle.fk_spec.specs.Start.{sends_of, sent_in, count_sent}
+use Rattle.fk_spec.specs.Settling.{Outcome, Committed, Refused, Passed, mark_of}
+use Rattle.fk_spec.specs.Lanes.{Message, Done, Kept, inbox_of}
+use Rattle.fk_spec.specs.Client.{Client, Sent, Reading, Result, Open, Settled, Plain, Expired, with_result, is_open, is_ready, without_ready, settle_kept, kept_outcome, is_unfit, local_result, registers, is_close, close_if, looked_for, looked_at, looked, acted, flushed, client_in, client_by, client_of, is_write}
 use Rattle.fk_spec.specs.Replies.{verb_asked}
 use Rattle.fk_spec.specs.Next.{IsHistory}
-use Rattle.fk_law.specs.Due.{IsDue, IsApplied}
-use Rattle.fk_law.specs.Growing.{AreAtMost}
+use Rattle.fk_law.specs.Due.{IsDue}
 use Rattle.fk_law.proofs.Due.{due}
 use Rattle.fk_law.proofs.Growing.{numbers_never_fall}
 use Rattle.fk_law.proofs.Outcomes.{outcome_never_changes}
@@ -28,7 +26,7 @@ use Rattle.fk_law_watch.proofs.Reading.{ReadSo, reads_so}
 use Rattle.fk_law_client.specs.Inboxes.{IsPublishedPush, IsTrueMessage, AreTrueMessages}
 use Rattle.fk_law_client.specs.Tracking.{IsSentWith, IsTrueResult, later, IsSentSo, AreTracked, KeepsTrack, SentCommandsAreTracked}
 use Rattle.fk_law_client.proofs.Acting.{ActsAs, BeginsSo, IsLooked, ReadsTree, entry_acts}
-use Rattle.fk_law_client.proofs.Messages.{some_same, none_some, same_number, published_push_stays, inbox_messages}
+use Rattle.fk_law_client.proofs.Messages.{some_same, same_number, published_push_stays, inbox_messages}
 
 -- What was seen grows. ---------------------------------------------------------------------------------
 

@@ -6,7 +6,7 @@ use Rattle.fk_tree.specs.declared.request.Request.{Request}
 use Rattle.fk_script.specs.declared.command.Command.{Command}
 use Rattle.fk_script.specs.declared.command.Command.TheVariants as command
 use Rattle.fk_script.specs.declared.deployment.Block.{Block}
-use Rattle.fk_spec.specs.Plan.{Ask, Want, Unfit, Writes, Reads, asks_of, all_asks, ask_of, want_of, at_path, path_within, item_after, nth, or_empty}
+use Rattle.fk_spec.specs.Plan.{Ask, Want, Writes, Reads, asks_of, all_asks, ask_of, want_of, at_path, path_within, item_after, nth, or_empty}
 use Rattle.fk_spec.specs.Client.{is_write}
 use Rattle.fk_law_client.specs.Views.{DeploymentsWriteByWrites}
 use Rattle.fk_law_client.proofs.Messages.{some_same}

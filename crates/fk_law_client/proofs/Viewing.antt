@@ -1,5 +1,5 @@
 -- No client's view of the tree falls.
-use Rattle.std.specs.Prelude.{◌==◌, nat_le, if◌then◌else◌, ◌&&◌, max}
+use Rattle.std.specs.Prelude.{◌==◌, nat_le, ◌&&◌, max}
 use Rattle.std.proofs.Common.{◌≡◌, ℕ, ◌+◌, ◌⊎◌, inl, inr, ◌++◌, Bool, true, false, List, [], ◌∷◌, refl, sym, ◌∙◌, ap, subst, arith, Option, Some, None}
 use Rattle.std.proofs.lemmas.Bool.{cond_both}
 use Rattle.std.proofs.lemmas.Bool.Decides.{nat_tests}
@@ -19,22 +19,22 @@ use Rattle.fk_print.specs.declared.line.Verb.{Verb}
 use Rattle.fk_print.specs.declared.op.Op.{Op}
 use Rattle.fk_print.specs.declared.op.Op.TheVariants as op
 use Rattle.fk_spec.specs.Plan.{Plan, Ask, Want, Unfit, Writes, Reads, asked}
-use Rattle.fk_spec.specs.Shown.{seen_by, seen_in, seen_lines, shown_number}
+use Rattle.fk_spec.specs.Shown.{seen_by, seen_lines, shown_number}
 use Rattle.fk_spec.specs.Start.{written}
 use Rattle.fk_spec.specs.Settling.{Outcome, Committed, mark_of}
 use Rattle.fk_spec.specs.Stored.{committed_as}
 use Rattle.fk_spec.specs.Watches.{Firing, firing_of}
 use Rattle.fk_spec.specs.Lanes.{Message, inbox_of}
-use Rattle.fk_spec.specs.Client.{Client, Sent, Reading, Result, Open, Settled, Plain, Expired, with_result, is_open, is_ready, without_ready, ready_first, settle_with, settle_kept, kept_outcome, contains, is_unfit, local_result, registers, is_close, close_if, looked_for, looked_at, looked, acted, flushed, client_in, client_by, client_of, is_write}
-use Rattle.fk_spec.specs.Replies.{verb_asked, shown_result, line_for, reply_line, reply_lines, first_line, shown_answer, shown_read, shown_asked, read_line, read_lines, looked_lines, notice_of, failed_line, own_lines, client_lines}
+use Rattle.fk_spec.specs.Client.{Client, Sent, Reading, Result, Open, Settled, Plain, Expired, with_result, is_open, is_ready, without_ready, ready_first, settle_kept, kept_outcome, contains, is_unfit, local_result, registers, is_close, close_if, looked_for, looked_at, looked, acted, flushed, client_in, client_by, client_of, is_write}
+use Rattle.fk_spec.specs.Replies.{verb_asked, line_for, reply_line, reply_lines, first_line, shown_answer, shown_read, shown_asked, read_line, read_lines, looked_lines, notice_of, own_lines}
 use Rattle.fk_spec.specs.PublicLines.{Each, lines_of, lines_onto, seen_before}
-use Rattle.fk_spec.specs.Promises.{reads_at, IsAtLeast, ViewKept, ViewNeverFalls}
+use Rattle.fk_spec.specs.Promises.{reads_at, IsAtLeast, ViewKept}
 use Rattle.fk_spec.specs.Next.{IsHistory, next_lines, lines_of_client, tx_lines}
 use Rattle.fk_law.specs.Due.{IsDue}
 use Rattle.fk_law.proofs.Due.{due}
 use Rattle.fk_law_watch.proofs.Reading.{next_is}
 use Rattle.fk_law_client.specs.Views.{WritesAreWrites, EachViewNeverFalls}
-use Rattle.fk_law_client.proofs.Acting.{ActsAs, BeginsSo, entry_acts}
+use Rattle.fk_law_client.proofs.Acting.{ActsAs, entry_acts}
 use Rattle.fk_law_client.proofs.Messages.{some_same, none_some, same_number}
 
 -- Lines and the lines before them. ---------------------------------------------------------------------

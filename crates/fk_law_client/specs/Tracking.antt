@@ -6,7 +6,7 @@ use Rattle.fk_spec.specs.Shown.{seen_by}
 use Rattle.fk_spec.specs.Start.{sends_of, origin_of}
 use Rattle.fk_spec.specs.Start as start
 use Rattle.fk_spec.specs.Settling.{Committed, Refused, Passed, outcome_of}
-use Rattle.fk_spec.specs.Client.{Client, Sent, Result, Open, Settled, Plain, Expired, client_of}
+use Rattle.fk_spec.specs.Client.{Sent, Result, Open, Settled, Plain, Expired, client_of}
 use Rattle.fk_spec.specs.Next.{IsHistory}
 use Rattle.fk_law_watch.specs.FirstNumbers.{ReadsAreReads}
 use Rattle.fk_law_client.specs.Inboxes.{IsPublishedPush}
