@@ -194,7 +194,7 @@ entry_acts p c e h k l a = let q = ap (λ x. x.op) l.1 in subst (ActsAs (client_
 
 -- What a line shows to other clients. ------------------------------------------------------------------
 
-seen_append : (c : ℕ) (xs ys : List Line) (n : ℕ) → seen_lines c (xs ++ ys) n ≡ seen_lines c ys (seen_lines c xs n)
+pub seen_append : (c : ℕ) (xs ys : List Line) (n : ℕ) → seen_lines c (xs ++ ys) n ≡ seen_lines c ys (seen_lines c xs n)
 seen_append c [] ys n = refl
 seen_append c (x ∷ xs) ys n = seen_append c xs ys (seen_in c x n)
 
@@ -234,7 +234,7 @@ own_unseen p h c s x (op.ReadFault d i) n e = rw e refl
 own_unseen p h c s x (op.WatchFault d i) n e = rw e refl
 own_unseen p h c s x o n e = refl
 
-client_unseen : (p : Plan) (h : List Entry) (c s : ℕ) (o : Op) (n : ℕ) → (s == c) ≡ false → seen_lines c (client_lines p s h o) n ≡ n
+pub client_unseen : (p : Plan) (h : List Entry) (c s : ℕ) (o : Op) (n : ℕ) → (s == c) ≡ false → seen_lines c (client_lines p s h o) n ≡ n
 client_unseen p h c s o n e =
     let x = client_of p s h in
     seen_append c (own_lines p h s x o) (reply_lines p h s (ready_first (acted p s h (inbox_of p s h) o x).sent)) n
@@ -245,7 +245,7 @@ txs_unseen : (c n : ℕ) (a : Option Applied) → seen_lines c (tx_lines a) n �
 txs_unseen c n None = refl
 txs_unseen c n (Some a) = refl
 
-none_unseen : (p : Plan) (h : List Entry) (c n : ℕ) (o : Op) → client_in o ≡ None → seen_lines c (next_lines p h o) n ≡ n
+pub none_unseen : (p : Plan) (h : List Entry) (c n : ℕ) (o : Op) → client_in o ≡ None → seen_lines c (next_lines p h o) n ≡ n
 none_unseen p h c n (op.PublishOk m t) e = txs_unseen c n (committed_as p t h)
 none_unseen p h c n o e = ap (λ s. seen_lines c (lines_of_client p h o s) n) e
 
@@ -312,11 +312,11 @@ own_step p h c ms seen mark o None ss b hd ow cl e a w = tt
 own_step p h c ms seen mark o (Some r) [] b hd ow cl e a w = (refl, w.1)
 own_step p h c ms seen mark o (Some r) (s ∷ ss) b hd ow cl e a w = absurd (cons_nil s ss w.0)
 
-next_is : (p : Plan) (h : List Entry) (s : ℕ) (o : Op) → client_in o ≡ Some s → next_lines p h o ≡ client_lines p s h o
+pub next_is : (p : Plan) (h : List Entry) (s : ℕ) (o : Op) → client_in o ≡ Some s → next_lines p h o ≡ client_lines p s h o
 next_is p h s (op.PublishOk n t) e = absurd (none_some s e)
 next_is p h s o e = ap (lines_of_client p h o) e
 
-mark_grows : (m : ℕ) (o : Op) → m ≤ mark_in o m
+pub mark_grows : (m : ℕ) (o : Op) → m ≤ mark_in o m
 mark_grows m o = grind (arith, nat_tests)
 
 -- client c's read after one more operation with these lines
@@ -346,7 +346,7 @@ read_step p c h o a w = by_client (client_in o) refl
         (λ f. let g = same s f in subst (λ z. ReadSo (flushed (acted p c h (inbox_of p c h) o x)).sent (seen_lines c (client_lines p z h o) (seen_by c h)) (mark_in o (mark_of h)) (flushed (acted p c h (inbox_of p c h) o x)).reading) (sym g) (own (q ∙ ap Some g)))
         (λ f. subst (λ n. ReadSo x.sent n (mark_in o (mark_of h)) x.reading) (sym (client_unseen p h c s o (seen_by c h) f)) more))
 
-reads_so : (p : Plan) (c : ℕ) (h : List Entry) → ReadsAreReads p → IsHistory p h → ReadsSo p c h
+pub reads_so : (p : Plan) (c : ℕ) (h : List Entry) → ReadsAreReads p → IsHistory p h → ReadsSo p c h
 reads_so p c [] k l = tt
 reads_so p c (e ∷ h) k l = subst (λ ls. After p c h e.op ls (client_in e.op)) (sym lines) (read_step p c h e.op (entry_acts p c e h k l) (reads_so p c h k l.0))
   where

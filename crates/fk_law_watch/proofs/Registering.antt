@@ -36,11 +36,14 @@ use Rattle.fk_law_watch.specs.Registering.{number_from, number_of_read, Register
 
 abbrev pub NoClients : Op → Type 0
 NoClients (op.WatchSet c i id) = ⊥
+NoClients (op.WatchSwept c i t) = ⊥
+NoClients (op.WatchFault c i) = ⊥
 NoClients (op.LookOk c i mark) = ⊥
 NoClients (op.Send c i k) = ⊥
 NoClients (op.SendFault c i) = ⊥
 NoClients (op.Local c i) = ⊥
 NoClients (op.Read c i stamp) = ⊥
+NoClients (op.ReadFault c i) = ⊥
 NoClients _ = Unit {0}
 
 locked_none : (n t : ℕ) (o : Option locks.Passed) → NoClients (commit_locked n t o)
