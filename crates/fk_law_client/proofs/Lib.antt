@@ -1,6 +1,7 @@
 pub mod Acting
 pub mod Keeping
 pub mod Messages
+pub mod Printing
 pub mod Pushed
 pub mod Seen
 pub mod Tracking

@@ -1,4 +1,5 @@
 pub mod Inboxes
+pub mod Ordering
 pub mod Refused
 pub mod Shown
 pub mod Tracking
