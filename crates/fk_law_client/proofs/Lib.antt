@@ -1,4 +1,5 @@
 pub mod Acting
+pub mod Arguments
 pub mod Keeping
 pub mod Messages
 pub mod Printing

@@ -3,4 +3,5 @@ pub mod Ordering
 pub mod Refused
 pub mod Shown
 pub mod Tracking
+pub mod Unfit
 pub mod Views
