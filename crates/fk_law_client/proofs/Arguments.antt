@@ -1,5 +1,5 @@
 -- Unfit commands, and they alone, are refused for their arguments.
-use Rattle.std.specs.Prelude.{◌==◌, ◌&&◌, if◌then◌else◌}
+use Rattle.std.specs.Prelude.{◌==◌, ◌&&◌}
 use Rattle.std.proofs.Common.{◌≡◌, ℕ, ◌+◌, ◌++◌, Bool, true, false, List, [], ◌∷◌, refl, sym, ◌∙◌, ap, subst, Option, Some, None}
 use Rattle.std.proofs.lemmas.Bool.{false≢true, cond_both}
 use Rattle.fk_base.specs.declared.code.Code.TheVariants as code
@@ -25,7 +25,7 @@ use Rattle.fk_spec.specs.Stored.{committed_as}
 use Rattle.fk_spec.specs.Watches.{Firing, firing_of}
 use Rattle.fk_spec.specs.Lanes.{Message, inbox_of}
 use Rattle.fk_spec.specs.Client.{Client, Sent, Reading, Result, Open, Settled, Plain, Expired, with_result, is_open, is_ready, without_ready, ready_first, settle_kept, kept_outcome, contains, is_unfit, local_result, registers, is_close, close_if, looked_for, looked_at, looked, acted, flushed, client_in, client_by, client_of, number_read}
-use Rattle.fk_spec.specs.Replies.{shown_result, shown_applied, shown_reply, shown_loss, shown_answer, shown_asked, reply_line, reply_lines, first_line, read_line, read_lines, looked_lines, notice_of, own_lines, client_lines}
+use Rattle.fk_spec.specs.Replies.{shown_result, shown_applied, shown_reply, shown_loss, shown_answer, shown_asked, reply_lines, first_line, read_line, read_lines, looked_lines, notice_of, own_lines, client_lines}
 use Rattle.fk_spec.specs.PublicLines.{Each, lines_of, lines_onto}
 use Rattle.fk_spec.specs.Refusals.{is_bad_arguments}
 use Rattle.fk_spec.specs.Next.{IsHistory, next_lines, lines_of_client, tx_lines}

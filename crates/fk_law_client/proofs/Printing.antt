@@ -1,5 +1,5 @@
 -- Each client's replies are in the order of its commands.
-use Rattle.std.specs.Prelude.{◌==◌, nat_lt, if◌then◌else◌, ◌&&◌}
+use Rattle.std.specs.Prelude.{◌==◌, if◌then◌else◌, ◌&&◌}
 use Rattle.std.proofs.Common.{◌≡◌, ℕ, ◌+◌, ◌≤◌, ◌++◌, Bool, true, false, List, [], ◌∷◌, refl, sym, ◌∙◌, ap, subst, arith, Option, Some, None}
 use Rattle.std.proofs.lemmas.Bool.{false≢true, cond_both}
 use Rattle.std.proofs.lemmas.Bool.Decides.{nat_tests}
@@ -19,8 +19,8 @@ use Rattle.fk_spec.specs.Settling.{Outcome, Committed, mark_of}
 use Rattle.fk_spec.specs.Stored.{committed_as}
 use Rattle.fk_spec.specs.Watches.{Firing, firing_of}
 use Rattle.fk_spec.specs.Lanes.{Message, inbox_of}
-use Rattle.fk_spec.specs.Client.{Client, Sent, Reading, Result, Open, Settled, Plain, Expired, with_result, is_open, is_ready, without_ready, ready_first, settle_kept, kept_outcome, contains, is_unfit, local_result, registers, is_close, close_if, looked_for, looked_at, looked, acted, flushed, client_in, client_by, client_of}
-use Rattle.fk_spec.specs.Replies.{verb_asked, shown_result, line_for, reply_line, reply_lines, first_line, read_line, read_lines, looked_lines, notice_of, failed_line, own_lines, client_lines}
+use Rattle.fk_spec.specs.Client.{Client, Sent, Reading, Result, Open, Settled, Plain, with_result, is_open, is_ready, without_ready, ready_first, settle_kept, kept_outcome, contains, is_unfit, local_result, registers, is_close, close_if, looked_for, looked_at, looked, acted, flushed, client_in, client_by, client_of}
+use Rattle.fk_spec.specs.Replies.{verb_asked, shown_result, reply_line, reply_lines, first_line, read_line, read_lines, looked_lines, notice_of, failed_line, own_lines, client_lines}
 use Rattle.fk_spec.specs.PublicLines.{Each, lines_of, lines_onto}
 use Rattle.fk_spec.specs.Promises.{is_earlier, all_earlier}
 use Rattle.fk_spec.specs.Next.{IsHistory, next_lines, lines_of_client, tx_lines}
@@ -85,9 +85,10 @@ record IsOrdered (c : ℕ) (ss : List Sent) (begun : ℕ) (before : List Line) :
 
 -- the first of them is answered
 first_ordered : (c : ℕ) (s : Sent) (ss : List Sent) (begun : ℕ) (b : List Line) (v : Verb) (sh : Shown) → IsOrdered c (s ∷ ss) begun b → (all_earlier c s.command b ≡ true) × IsOrdered c ss begun (line.Reply c s.command v sh ∷ b)
-first_ordered c s ss begun b v sh x =
-    (subst (λ z. all_earlier c z b ≡ true) (sym x.leads.0) x.earlier,
-    record { answered = x.answered + 1; leads = x.leads.1; earlier = subst (λ z. all_earlier c (x.answered + 1 + 1) (line.Reply c z v sh ∷ b) ≡ true) (sym x.leads.0) (reply_earlier c x.answered v sh b x.earlier) })
+first_ordered c s ss begun b v sh x = (
+  subst (λ z. all_earlier c z b ≡ true) (sym x.leads.0) x.earlier,
+  record { answered = x.answered + 1; leads = x.leads.1; earlier = subst (λ z. all_earlier c (x.answered + 1 + 1) (line.Reply c z v sh ∷ b) ≡ true) (sym x.leads.0) (reply_earlier c x.answered v sh b x.earlier) },
+)
 
 -- the next command is answered, while none is unanswered
 answer_ordered : (c i : ℕ) (ss : List Sent) (begun : ℕ) (b : List Line) (v : Verb) (sh : Shown) → i ≡ begun + 1 → ss ≡ [] → IsOrdered c ss begun b → (all_earlier c i b ≡ true) × IsOrdered c ss (begun + 1) (line.Reply c i v sh ∷ b)
