@@ -79,9 +79,6 @@ not_below a b e = grind (arith, nat_tests)
 its : (c d : ℕ) → Some c ≡ Some d → d ≡ c
 its c d e = grind arith
 
-pub cons_nil : (s : Sent) (ss : List Sent) → s ∷ ss ≡ [] → ⊥
-cons_nil s ss e = grind arith
-
 held_acts : (p : Plan) (x : Client) (seen mark c i m : ℕ) (o : Option ℕ) → LooksSo x seen mark → Acts p x seen mark c (held_op c i m o)
 held_acts p x seen mark c i m None b = (b, its c)
 held_acts p x seen mark c i m (Some id) b = (tt, its c)
