@@ -18,7 +18,7 @@ use Rattle.fk_spec.specs.Stored.{stamp_of}
 use Rattle.fk_spec.specs.Watches.{last_sweep}
 use Rattle.fk_spec.specs.Lanes.{session_head, leader_head, watch_head, Message, Done, Evicted, Kept, Watch, Ping, inbox_of}
 use Rattle.fk_spec.specs.Function.{place_of, function_op, fault_op}
-use Rattle.fk_spec.specs.Client.{Client, Sent, Reading, Result, Open, Settled, Plain, Expired, all_go_on, watch_number, number_looked_for, client_of, client_in, client_op, failed_op, pong_or, take_or, take_op, look_or, look_sent_or, look_op, held_op, number_read, watch_or, register_asked, register_for, next_command_op, begin_op, local_if, may_begin, is_none_sent, is_write}
+use Rattle.fk_spec.specs.Client.{Client, Sent, Reading, Result, Open, Settled, Plain, Expired, all_go_on, watch_number, number_looked_for, client_of, client_in, client_op, failed_op, pong_or, take_or, take_op, look_or, look_sent_or, look_op, held_op, number_read, watch_or, register_asked, register_for, next_command_op, begin_op, local_if, may_begin, is_none_sent, is_unfit, is_write}
 use Rattle.fk_spec.specs.Replies.{verb_asked}
 use Rattle.fk_spec.specs.Next.{IsHistory, next_op, follow_op, lead_op, tell_op, crash_op}
 use Rattle.fk_law_watch.proofs.Registering.{NoClients, function_none, follow_none, lead_none, tell_none, crash_none, fault_none}
@@ -44,6 +44,10 @@ IsLooked (Some r) = r.looked ≡ true
 abbrev pub BeginsSo : Plan → ℕ → Client → ℕ → Type 0
 BeginsSo p c x i = (i ≡ x.begun + 1) × (x.reading ≡ None) × ((is_write (verb_asked (asked p c i)) ≡ true) ⊎ (x.sent ≡ []))
 
+-- and the command isn't unfit
+abbrev pub SendsSo : Plan → ℕ → Client → ℕ → Type 0
+SendsSo p c x i = (i ≡ x.begun + 1) × (x.reading ≡ None) × ((is_write (verb_asked (asked p c i)) ≡ true) ⊎ (x.sent ≡ [])) × (is_unfit (asked p c i) ≡ false)
+
 abbrev IsRead : Want → Type 0
 IsRead (Reads q watch) = Unit {0}
 IsRead _ = ⊥
@@ -58,8 +62,8 @@ ActsAs p c x seen mark (op.LookOk d i m) = LooksSo x seen mark
 ActsAs p c x seen mark (op.WatchSet d i id) = (i ≡ x.begun + 1) × IsLooked x.reading
 ActsAs p c x seen mark (op.WatchSwept d i t) = (i ≡ x.begun + 1) × IsLooked x.reading
 ActsAs p c x seen mark (op.WatchFault d i) = (i ≡ x.begun + 1) × IsLooked x.reading
-ActsAs p c x seen mark (op.Send d i k) = BeginsSo p c x i
-ActsAs p c x seen mark (op.SendFault d i) = BeginsSo p c x i
+ActsAs p c x seen mark (op.Send d i k) = SendsSo p c x i
+ActsAs p c x seen mark (op.SendFault d i) = SendsSo p c x i
 ActsAs p c x seen mark (op.Local d i) = BeginsSo p c x i
 ActsAs p c x seen mark (op.Read d i s) = BeginsSo p c x i × ReadsTree (asked p c i)
 ActsAs p c x seen mark (op.ReadFault d i) = BeginsSo p c x i × ReadsTree (asked p c i)
@@ -74,9 +78,6 @@ not_below a b e = grind (arith, nat_tests)
 
 its : (c d : ℕ) → Some c ≡ Some d → d ≡ c
 its c d e = grind arith
-
-pub cons_nil : (s : Sent) (ss : List Sent) → s ∷ ss ≡ [] → ⊥
-cons_nil s ss e = grind arith
 
 held_acts : (p : Plan) (x : Client) (seen mark c i m : ℕ) (o : Option ℕ) → LooksSo x seen mark → Acts p x seen mark c (held_op c i m o)
 held_acts p x seen mark c i m None b = (b, its c)
@@ -129,7 +130,7 @@ none_sent (s ∷ ss) e = absurd (false≢true e)
 
 begin_acts : (p : Plan) (h : List Entry) (x : Client) (seen mark c i : ℕ) (closed : Bool) (a : Ask) (w : Want) → asked p c i ≡ Some a → a.want ≡ w → BeginsSo p c x i → Acts p x seen mark c (begin_op p c i h closed w)
 begin_acts p h x seen mark c i closed a Unfit q f b = (b, its c)
-begin_acts p h x seen mark c i closed a (Writes r) q f b = local_acts p x seen mark c i closed (op.Send c i (sends_of c h + 1)) b (b, its c)
+begin_acts p h x seen mark c i closed a (Writes r) q f b = local_acts p x seen mark c i closed (op.Send c i (sends_of c h + 1)) b ((b.0, b.1, b.2, subst (λ z. is_unfit z ≡ false) (sym q) (subst (λ w. is_unfit (Some (record a { want = w })) ≡ false) (sym f) refl)), its c)
 begin_acts p h x seen mark c i closed a (Reads v w) q f b = local_acts p x seen mark c i closed (op.Read c i (stamp_of (path_asked v) h)) b ((b, subst ReadsTree (sym q) (subst IsRead (sym f) tt)), its c)
 
 next_acts : (p : Plan) (h : List Entry) (x : Client) (seen mark c : ℕ) (a : Option Ask) → asked p c (x.begun + 1) ≡ a → x.reading ≡ None → Acts p x seen mark c (next_command_op p c h x a)

@@ -1,6 +1,8 @@
 pub mod Acting
+pub mod Arguments
 pub mod Keeping
 pub mod Messages
+pub mod Printing
 pub mod Pushed
 pub mod Seen
 pub mod Tracking

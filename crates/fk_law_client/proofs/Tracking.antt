@@ -157,11 +157,11 @@ kept_tracked : (p : Plan) (c k : ℕ) (h : List Entry) (top : ℕ) (o : Option O
 kept_tracked p c k h top None x i t = t
 kept_tracked p c k h top (Some w) x i t = settle p c k h (Settled w) x.sent x.begun top (i w refl) t
 
-none_read : (ss : List Sent) (seen mark : ℕ) (r : Option Reading) → ReadSo ss seen mark r → IsLooked r → ss ≡ []
+pub none_read : (ss : List Sent) (seen mark : ℕ) (r : Option Reading) → ReadSo ss seen mark r → IsLooked r → ss ≡ []
 none_read ss seen mark None w i = absurd i
 none_read ss seen mark (Some r) w i = w.0
 
-none_unanswered : (p : Plan) (c : ℕ) (x : Client) (i : ℕ) → ReadsAreReads p → BeginsSo p c x i → ReadsTree (asked p c i) → x.sent ≡ []
+pub none_unanswered : (p : Plan) (c : ℕ) (x : Client) (i : ℕ) → ReadsAreReads p → BeginsSo p c x i → ReadsTree (asked p c i) → x.sent ≡ []
 none_unanswered p c x i k b r = by_ask (asked p c i) refl r b.2
   where
     by_want : (a : Ask) (w : Want) → a.want ≡ w → asked p c i ≡ Some a → ReadsTree (Some (record a { want = w })) → is_write a.verb ≡ true → x.sent ≡ []

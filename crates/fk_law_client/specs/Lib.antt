@@ -1,5 +1,7 @@
 pub mod Inboxes
+pub mod Ordering
 pub mod Refused
 pub mod Shown
 pub mod Tracking
+pub mod Unfit
 pub mod Views

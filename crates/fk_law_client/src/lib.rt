@@ -4,12 +4,14 @@
 
 mod inboxes;
 mod refusal_numbers;
+mod replies;
 mod sent_commands;
 mod shown_numbers;
 mod views;
 
 pub use inboxes::inbox_messages_are_true;
 pub use refusal_numbers::{mark_was_pushed, refusal_stays_at_its_number};
+pub use replies::{replies_are_in_order, unfit_commands_are_refused};
 pub use sent_commands::sent_commands_are_tracked;
 pub use shown_numbers::seen_is_published;
 pub use views::{deployments_write_by_writes, view_never_falls};
