@@ -3,4 +3,3 @@ pub mod Going
 pub mod Items
 pub mod Owning
 pub mod Stages
-pub mod Trying

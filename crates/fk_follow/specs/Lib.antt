@@ -7,5 +7,4 @@ pub mod Reading
 pub mod Said
 pub mod Services
 pub mod Standing
-pub mod Tried
 pub mod Worked

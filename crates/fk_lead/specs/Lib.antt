@@ -6,4 +6,3 @@ pub mod Said
 pub mod Services
 pub mod Standing
 pub mod Sweeping
-pub mod Tried

@@ -10,8 +10,6 @@ mod listing;
 mod set_watches;
 mod sweeps;
 mod table;
-#[cfg(test)]
-mod tests;
 mod watch;
 
 pub use answer::{Register, Sweep, Told};
