@@ -47,10 +47,10 @@ fn counts(alloc: Global, applied: &Applied) -> Result<(usize, usize), NoMemory> 
 
 /// How many parts were answered.
 fn replies(reply: &Reply) -> usize {
-    match reply {
-        Reply::Multi(replies) => replies.as_slice().len(),
-        Reply::Created(_) | Reply::Version(_) | Reply::Deleted | Reply::Closed => 0,
+    if let Reply::Multi(replies) = reply {
+        return replies.as_slice().len();
     }
+    0
 }
 
 /// How often the children of a node changed.
