@@ -5,6 +5,14 @@
 #[cfg(test)]
 mod base;
 #[cfg(test)]
+mod machines;
+#[cfg(test)]
+mod run;
+#[cfg(test)]
+mod services;
+#[cfg(test)]
+mod text;
+#[cfg(test)]
 mod tree;
 #[cfg(test)]
 mod wire;
