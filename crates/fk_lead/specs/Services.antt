@@ -7,7 +7,6 @@ use Rattle.fk_tree.specs.declared.request.Request.TheVariants as request
 use Rattle.fk_queue.specs.Answers.{ack_of, after_ack}
 use Rattle.fk_queue.specs.Meaning as post
 use Rattle.fk_queue.specs.Meaning.{posted}
-use Rattle.fk_queue.specs.declared.lane.Lane.{Lane}
 use Rattle.fk_queue.specs.declared.lane.Lane.TheVariants as lane
 use Rattle.fk_store.specs.Meaning as table
 use Rattle.fk_store.specs.declared.cond.Cond.{Cond}

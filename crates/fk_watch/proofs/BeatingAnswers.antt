@@ -1,7 +1,6 @@
 -- What the answer says of a transaction that notes a ping is the operation by the table's meaning.
 use Rattle.std.proofs.Common.{◌≡◌, ℕ, refl, arith}
 use Rattle.std.proofs.lemmas.Bool.Decides.{nat_tests}
-use Rattle.fk_print.specs.declared.op.Op.TheVariants as op
 use Rattle.fk_print.specs.declared.op.Word.TheVariants as word
 use Rattle.fk_store.specs.Answers.{IsTransact}
 use Rattle.fk_store.specs.Conds.{session_of}

@@ -2,7 +2,6 @@
 use Rattle.std.proofs.Common.{◌≡◌, ◌<◌, ◌≤◌, ℕ, ◌+◌, false, List, [], ◌∷◌, refl, sym, ◌∙◌, ap, length, get_or, drop, drop_of_length-le}
 use Rattle.std.proofs.lemmas.List.{drop_more}
 use Rattle.fk_wire.specs.declared.fired.Fired.{Fired}
-use Rattle.fk_wire.specs.declared.message.Note.{Note}
 use Rattle.fk_spec.specs.Teller.{to_tell}
 use Rattle.fk_spec.specs.Teller as stage
 use Rattle.fk_spec.specs.Watches.{Firing}

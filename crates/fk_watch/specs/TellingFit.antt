@@ -1,5 +1,5 @@
 -- What an operation of a watch function needs, and that what it sends can be read.
-use Rattle.std.specs.Prelude.{◌≡◌, ℕ, ◌<◌, ◌-◌, ◌^◌, true, false, ⊤, List}
+use Rattle.std.specs.Prelude.{◌≡◌, ◌<◌, ◌-◌, ◌^◌, true, false, ⊤, List}
 use Rattle.fk_queue.specs.Lanes.{is_session}
 use Rattle.fk_queue.specs.Meaning as post
 use Rattle.fk_queue.specs.declared.lane.Lane.TheVariants as lane

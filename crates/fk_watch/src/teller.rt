@@ -1,16 +1,15 @@
 //! The watch function.
 
-ghost use Rattle.std.specs.Prelude.{◌≡◌, ◌+◌, ◌-◌, ◌<◌, ◌^◌, true, drop, length, IfNone, IfOk, IfSome, OnOk};
+ghost use Rattle.std.specs.Prelude.{◌≡◌, ◌+◌, ◌<◌, drop, length, IfNone, IfOk, IfSome, OnOk};
 ghost use Rattle.fk_print.specs.declared.op.Op.TheVariants as op;
 ghost use Rattle.fk_print.specs.declared.op.Word.TheVariants as word;
 ghost use Rattle.fk_queue.specs.Answers.{ack_of, after_ack};
 ghost use Rattle.fk_queue.specs.Letters.{head_number};
-ghost use Rattle.fk_queue.specs.Meaning.{has_lane, posted};
+ghost use Rattle.fk_queue.specs.Meaning.{posted};
 ghost use Rattle.fk_queue.specs.Posts.{post_of};
 ghost use Rattle.fk_queue.specs.declared.lane.Lane.TheVariants as lane;
 ghost use Rattle.fk_spec.specs.Failing.{or_fault};
 ghost use Rattle.fk_spec.specs.Follower.{ack_op};
-ghost use Rattle.fk_spec.specs.Teller.{after_tell};
 ghost use Rattle.fk_spec.specs.Teller as stage;
 ghost use Rattle.fk_wire.specs.Limits.{IsNumber};
 ghost use Rattle.fk_wire.specs.TellText.{IsTell, tell_text};
