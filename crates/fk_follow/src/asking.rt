@@ -10,7 +10,8 @@ ghost use Rattle.fk_store.specs.Meaning.{Meaning, called};
 ghost use Rattle.fk_store.specs.declared.outcome.Outcome.TheVariants as outcome;
 ghost use Rattle.fk_tree.specs.Check.{HasFewParts};
 ghost use Rattle.fk_follow.specs.Next.{next_with};
-ghost use Rattle.fk_follow.specs.Operation.{or_fault, session_op, settled_op};
+ghost use Rattle.fk_spec.specs.Failing.{or_fault};
+ghost use Rattle.fk_follow.specs.Operation.{session_op, settled_op};
 ghost use Rattle.fk_spec.specs.Follower.{unsettled_op};
 ghost use Rattle.fk_follow.specs.Standing.{follower_of};
 

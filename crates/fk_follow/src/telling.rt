@@ -14,7 +14,7 @@ ghost use Rattle.fk_spec.specs.Follower.{ack_op};
 ghost use Rattle.fk_wire.specs.Limits.{IsNumber};
 ghost use Rattle.fk_follow.specs.Fit.{IsLimitedOutcome};
 ghost use Rattle.fk_follow.specs.Next.{next_with};
-ghost use Rattle.fk_follow.specs.Operation.{or_fault};
+ghost use Rattle.fk_spec.specs.Failing.{or_fault};
 ghost use Rattle.fk_follow.specs.Said.{ack_by};
 ghost use Rattle.fk_follow.specs.Services.{kept_tell, told};
 ghost use Rattle.fk_follow.specs.Standing.{follower_of, outcome_of};

@@ -15,7 +15,8 @@ use Rattle.fk_wire.specs.TellText.{tell_text}
 use Rattle.fk_wire.specs.declared.version.Version.TheVariants as version
 use Rattle.fk_lead.specs.Fit.{HasSession, IsFit, IsLimited}
 use Rattle.fk_lead.specs.Meaning.{Meaning}
-use Rattle.fk_lead.specs.Services.{note_of, post_after_step, posted, reply_tell, stage_post}
+use Rattle.fk_queue.specs.Meaning.{posted}
+use Rattle.fk_lead.specs.Services.{note_of, post_after_step, reply_tell, stage_post}
 use Rattle.fk_lead.specs.Tried.{HasRoom, IsSimple}
 
 -- ---- it may be made

@@ -16,9 +16,10 @@ ghost use Rattle.fk_wire.specs.TellText.{tell_text};
 ghost use Rattle.fk_wire.specs.declared.version.Version.TheVariants as version;
 ghost use Rattle.fk_lead.specs.Meaning.{Swept};
 ghost use Rattle.fk_lead.specs.Next.{next_with};
-ghost use Rattle.fk_lead.specs.Operation.{or_fault};
+ghost use Rattle.fk_spec.specs.Failing.{or_fault};
 ghost use Rattle.fk_lead.specs.Said.{ack_by};
-ghost use Rattle.fk_lead.specs.Services.{is_evict, note_of, posted, reply_tell};
+ghost use Rattle.fk_queue.specs.Meaning.{posted};
+ghost use Rattle.fk_lead.specs.Services.{is_evict, note_of, reply_tell};
 ghost use Rattle.fk_lead.specs.Standing.{leader_of};
 
 use crate::leader::Leader;
