@@ -1,6 +1,7 @@
 pub mod Answering
 pub mod Going
 pub mod Items
+pub mod Listing
 pub mod Owning
 pub mod Stages
 pub mod Trying

@@ -80,7 +80,7 @@ owned_has c done q z = among_has c (view_after done) (in_path_order (all_edited 
     by_owner true e = ordered_has (all_edited done) q ∙ all_has done q ∙ owned_was_edited done c q z e
     by_owner false e = refl
 
-owned_rise : (c : ℕ) (done : List Applied) → rises path_cmp (owned_after c done) ≡ true
+pub owned_rise : (c : ℕ) (done : List Applied) → rises path_cmp (owned_after c done) ≡ true
 owned_rise c done = among_rises c (view_after done) (in_path_order (all_edited done)) (ordered_rises (all_edited done))
 
 gone_is : (c : ℕ) (done : List Applied) (r : Request) → c ≢ 0 → GoneIs (view_after done) c r (gone_after c done r)
