@@ -207,9 +207,9 @@ none_between s n q done [] f g = tt
 none_between s n q done (a ∷ rest) f g = (g a f.0, none_between s n q done rest f.1 g)
 
 pub record_is_the_node : RecordIsTheNode
-record_is_the_node p n h q l b s m =
+record_is_the_node p n h q l s m =
     same_between (stamp_of q h) n q (committed_of p h) s (none_between (stamp_of q h) n q (committed_of p h) (committed_of p h) (all_found (committed_of p h) (all_once p h l)) unedited)
-    ∙ sym (ap (λ v. v.node q) (published_tree_is_shown p n h l b m))
+    ∙ sym (ap (λ v. v.node q) (published_tree_is_shown p n h l m))
   where
     unedited : (a : Applied) → committed_as p a.tx h ≡ Some a → stamp_of q h < a.tx → a.tx ≤ n → has_path q (edited_paths a) ≡ false
     unedited a e u v = by_test (has_path q (edited_paths a)) (λ z. z ≡ false) (λ w. let x = published_are_stamped p a.tx h a q l e (omega (arith, v, m)) w in absurd (omega (arith, u, x))) (λ _. refl)

@@ -1,0 +1,2 @@
+pub use Rattle.fk_stand.specs.Messages
+pub mod Pushes

@@ -1,0 +1,7 @@
+//! What services hold says the same as the rules: laws that tie what `fk_stand` says of the services after a
+//! history to what the rules of a history read. Each law is the clause of a function without a body.
+#![tactic(auto)]
+
+mod pushes;
+
+pub use pushes::push_is_its_commit;
