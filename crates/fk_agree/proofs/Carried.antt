@@ -86,7 +86,7 @@ record NewPush (p : Plan) (t n : ℕ) (e : Entry) (h : List Entry) (y : start.Pu
   pub is : push_message p h (op.Push n t) ≡ Some message
   pub same : applied_as t message ≡ filled_after (committed_of p (e ∷ h)) t y
 
-message_at : (p : Plan) (n t : ℕ) (h : List Entry) (f : Follower) (r : Request) → place_of p n h ≡ Following f → request_of p f.session f.k h ≡ Some r → push_message p h (op.Push n t) ≡ Some (push_with n (clock_of h) f r)
+pub message_at : (p : Plan) (n t : ℕ) (h : List Entry) (f : Follower) (r : Request) → place_of p n h ≡ Following f → request_of p f.session f.k h ≡ Some r → push_message p h (op.Push n t) ≡ Some (push_with n (clock_of h) f r)
 message_at p n t h f r b q = ap (push_by p h n) b ∙ ap (option_map (push_with n (clock_of h) f)) q
 
 moment_at : (t n : ℕ) (e : Entry) (h : List Entry) (x : Push) → e.op ≡ op.Push n t → push_of t (e ∷ h) ≡ Some x → x.moment ≡ clock_of h
@@ -132,17 +132,17 @@ new_push_is p t n c k e h y l g x z o q = record {
 -- While it can commit. ---------------------------------------------------------------------------------
 
 -- a line that pushes nothing under this number puts no such message
-no_message : (p : Plan) (t : ℕ) (h : List Entry) (o : Op) → push_here t (pushed_in (clock_of h) o) ≡ None → messages.push_here p t h o ≡ None
+pub no_message : (p : Plan) (t : ℕ) (h : List Entry) (o : Op) → push_here t (pushed_in (clock_of h) o) ≡ None → messages.push_here p t h o ≡ None
 no_message p t h (op.Push n s) e = grind (arith, nat_tests)
 no_message p t h o e = refl
 
-its_message : (p : Plan) (t n : ℕ) (h : List Entry) (o : Op) → o ≡ op.Push n t → messages.push_here p t h o ≡ push_message p h (op.Push n t)
+pub its_message : (p : Plan) (t n : ℕ) (h : List Entry) (o : Op) → o ≡ op.Push n t → messages.push_here p t h o ≡ push_message p h (op.Push n t)
 its_message p t n h o e = ap (messages.push_here p t h) e ∙ ap (λ b. if b then push_message p h (op.Push n t) else None) (same_number t)
   where
     same_number : (t : ℕ) → (t == t) ≡ true
     same_number t = grind (arith, nat_tests)
 
-one_message : (o : Option Pushed) (x y : Pushed) (m : Option Pushed) → m ≡ Some y → or_else m o ≡ Some x → y ≡ x
+pub one_message : (o : Option Pushed) (x y : Pushed) (m : Option Pushed) → m ≡ Some y → or_else m o ≡ Some x → y ≡ x
 one_message o x y m e i = grind arith
 
 -- what this message applies is what the commits would fill its push as

@@ -1,3 +1,5 @@
 mod Carried
 mod Listing
+mod Locking
+mod Telling
 mod Writing

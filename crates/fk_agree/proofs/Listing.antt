@@ -18,11 +18,10 @@ use Rattle.fk_spec.specs.Plan.{Plan}
 use Rattle.fk_spec.specs.Start.{request_of, seen_with}
 use Rattle.fk_spec.specs.Settling.{last_of_session, settled_of}
 use Rattle.fk_spec.specs.Stored.{committed_of, is_owned_by, owned_among, stored_view}
-use Rattle.fk_spec.specs.Follower.{Follower, next_with, node_in, to_lock, view_of}
+use Rattle.fk_spec.specs.Follower.{Follower, next_with, node_in, to_lock, view_of, paths_of}
 use Rattle.fk_spec.specs.Follower as follower
 use Rattle.fk_spec.specs.Function.{Following, place_of}
 use Rattle.fk_spec.specs.Next.{IsHistory}
-use Rattle.fk_law.specs.Seeing.{paths_of}
 use Rattle.fk_law.proofs.Filling.{among_has, among_rises, owned_rise, owner_same}
 use Rattle.fk_law.proofs.Carrying.{owned_is_granted}
 use Rattle.fk_law.proofs.Standing.{OnStanding, standing_step}

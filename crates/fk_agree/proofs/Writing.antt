@@ -2,14 +2,15 @@
 use Rattle.std.proofs.Common.{◌≡◌, ℕ, ◌++◌, Bool, true, false, cond, ◌||◌, List, [], ◌∷◌, refl, sym, ◌∙◌, ap, Option, Some, None}
 use Rattle.std.proofs.lemmas.Bool.{false≢true}
 use Rattle.fk_base.specs.Path.{PathNames, same_path}
-use Rattle.fk_tree.specs.Edit.{edited}
+use Rattle.fk_tree.specs.Edit.{edit, edited}
 use Rattle.fk_tree.specs.Sorted.{has_path}
 use Rattle.fk_tree.specs.Touch.{edit_paths}
 use Rattle.fk_tree.specs.Tree.{map_some}
 use Rattle.fk_tree.specs.declared.edit.Edit.{Edit}
+use Rattle.fk_tree.proofs.Order.{by_test}
 use Rattle.fk_store.specs.Locks.{released}
 use Rattle.fk_store.specs.Meaning.{Meaning}
-use Rattle.fk_store.specs.Writes.{all_written, done_written, records_written, record_after, session_after, session_written, written}
+use Rattle.fk_store.specs.Writes.{all_written, done_written, change_record, records_written, record_after, release_record, session_after, session_written, written}
 use Rattle.fk_store.specs.declared.node_record.NodeRecord.{NodeRecord}
 use Rattle.fk_store.specs.declared.session_record.SessionRecord.{SessionRecord}
 use Rattle.fk_store.specs.declared.write.Write.{Write}
@@ -72,20 +73,19 @@ last_twice tx last false = refl
 
 pub changes_written : (q : PathNames) (tx moment : ℕ) (es : List Edit) (r : NodeRecord) → records_written q (change_writes tx moment es) (Some r) ≡ Some (changed tx moment q es r)
 changes_written q tx moment [] r = refl
-changes_written q tx moment (e ∷ es) r = step (same_path q e.path) refl (changes_written q tx moment es)
-  where
-    step : (b : Bool) → same_path q e.path ≡ b → ((x : NodeRecord) → records_written q (change_writes tx moment es) (Some x) ≡ Some (changed tx moment q es x)) → records_written q (change_writes tx moment (e ∷ es)) (Some r) ≡ Some (changed tx moment q (e ∷ es) r)
-    step true f i = rw f (i _ ∙ ap (λ l. Some (record { node = _; lock = r.lock; last = l })) (last_twice tx r.last (has_path q (edit_paths es))))
-    step false f i = rw f (i r)
-
-none_written : (q : PathNames) (tx moment : ℕ) (e : Edit) (es : List Edit) (b : Bool) → same_path q e.path ≡ b → (b || has_path q (edit_paths es)) ≡ false → (has_path q (edit_paths es) ≡ false → records_written q (change_writes tx moment es) None ≡ None) → records_written q (change_writes tx moment (e ∷ es)) None ≡ None
-none_written q tx moment e es true f g i = absurd (false≢true (sym g))
-none_written q tx moment e es false f g i = rw f (i g)
+changes_written q tx moment (e ∷ es) r =
+    by_test (same_path q e.path) (λ b. records_written q (change_writes tx moment es) (cond b (change_record e tx moment (Some r)) (Some r)) ≡ Some (record { node = edited tx moment q es (cond b (edit tx moment e.what r.node) r.node); lock = r.lock; last = cond (b || has_path q (edit_paths es)) tx r.last }))
+    (λ _. changes_written q tx moment es _ ∙ ap (λ l. Some (record { node = edited tx moment q es (edit tx moment e.what r.node); lock = r.lock; last = l })) (last_twice tx r.last (has_path q (edit_paths es))))
+    (λ _. changes_written q tx moment es r)
 
 -- a path without a record that isn't edited gets none
 pub no_changes_written : (q : PathNames) (tx moment : ℕ) (es : List Edit) → has_path q (edit_paths es) ≡ false → records_written q (change_writes tx moment es) None ≡ None
 no_changes_written q tx moment [] g = refl
-no_changes_written q tx moment (e ∷ es) g = none_written q tx moment e es (same_path q e.path) refl g (no_changes_written q tx moment es)
+no_changes_written q tx moment (e ∷ es) g =
+    by_test (same_path q e.path) (λ b. (b || has_path q (edit_paths es)) ≡ false → records_written q (change_writes tx moment es) (cond b (change_record e tx moment None) None) ≡ None)
+    (λ _ f. absurd (false≢true (sym f)))
+    (λ _ f. no_changes_written q tx moment es f)
+    g
 
 -- The releases. -----------------------------------------------------------------------------------------
 
@@ -93,25 +93,23 @@ no_changes_written q tx moment (e ∷ es) g = none_written q tx moment e es (sam
 abbrev pub freed : PathNames → List PathNames → NodeRecord → NodeRecord
 freed q ps r = cond (has_path q ps) (record r { lock = released r.lock }) r
 
+freed_twice : (r : NodeRecord) (c : Bool) → cond c (record r { lock = released r.lock }) (record r { lock = released r.lock }) ≡ record r { lock = released r.lock }
+freed_twice r true = refl
+freed_twice r false = refl
+
 pub releases_written : (q : PathNames) (ps : List PathNames) (r : NodeRecord) → records_written q (release_writes ps) (Some r) ≡ Some (freed q ps r)
 releases_written q [] r = refl
-releases_written q (x ∷ ps) r = step (same_path q x) refl (releases_written q ps)
-  where
-    twice : (c : Bool) → cond c (record r { lock = released r.lock }) (record r { lock = released r.lock }) ≡ record r { lock = released r.lock }
-    twice true = refl
-    twice false = refl
-
-    step : (b : Bool) → same_path q x ≡ b → ((y : NodeRecord) → records_written q (release_writes ps) (Some y) ≡ Some (freed q ps y)) → records_written q (release_writes (x ∷ ps)) (Some r) ≡ Some (freed q (x ∷ ps) r)
-    step true f i = rw f (i _ ∙ ap Some (twice (has_path q ps)))
-    step false f i = rw f (i r)
+releases_written q (x ∷ ps) r =
+    by_test (same_path q x) (λ b. records_written q (release_writes ps) (cond b (release_record (Some r)) (Some r)) ≡ Some (cond (b || has_path q ps) (record r { lock = released r.lock }) r))
+    (λ _. releases_written q ps (record r { lock = released r.lock }) ∙ ap Some (freed_twice r (has_path q ps)))
+    (λ _. releases_written q ps r)
 
 pub no_releases_written : (q : PathNames) (ps : List PathNames) → records_written q (release_writes ps) None ≡ None
 no_releases_written q [] = refl
-no_releases_written q (x ∷ ps) = step (same_path q x) refl (no_releases_written q ps)
-  where
-    step : (b : Bool) → same_path q x ≡ b → records_written q (release_writes ps) None ≡ None → records_written q (release_writes (x ∷ ps)) None ≡ None
-    step true f i = rw f i
-    step false f i = rw f i
+no_releases_written q (x ∷ ps) =
+    by_test (same_path q x) (λ b. records_written q (release_writes ps) (cond b (release_record None) None) ≡ None)
+    (λ _. no_releases_written q ps)
+    (λ _. no_releases_written q ps)
 
 -- Neither changes the record of a session, nor the number done. ------------------------------------------
 

@@ -4,4 +4,4 @@
 
 mod pushes;
 
-pub use pushes::push_is_its_commit;
+pub use pushes::{message_tells_its_push, push_is_its_commit};

@@ -21,13 +21,12 @@ use Rattle.fk_spec.specs.Plan.{Plan}
 use Rattle.fk_spec.specs.Start.{Pushed, pushed_of}
 use Rattle.fk_spec.specs.Locks.{granted}
 use Rattle.fk_spec.specs.Stored.{committed_of, committed_in, committed_as, applied_as, with_filled, filled_after, gone_after, stored_view}
-use Rattle.fk_spec.specs.Follower.{Granted, node_in, view_of}
+use Rattle.fk_spec.specs.Follower.{Granted, node_in, view_of, paths_of}
 use Rattle.fk_spec.specs.Next.{IsHistory}
 use Rattle.fk_law.specs.Due.{IsDue, IsPushOf}
 use Rattle.fk_law.specs.Fitting.{FollowerFillsTheSame, CommittedAsPushed}
 use Rattle.fk_law.specs.Losing.{IsLive}
 use Rattle.fk_law.specs.Progress.{Works, progress}
-use Rattle.fk_law.specs.Seeing.{paths_of}
 use Rattle.fk_law.proofs.Due.{due}
 use Rattle.fk_law.proofs.Closing.{at_work_is_open}
 use Rattle.fk_law.proofs.Sending.{committed_other, was_committed, pushed_never_changes, its_push_forever}

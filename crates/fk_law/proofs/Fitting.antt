@@ -23,14 +23,14 @@ use Rattle.fk_spec.specs.Start.{Follows, Push, Pushed, clock_of, task_of, push_o
 use Rattle.fk_spec.specs.Locks.{is_push_of, last_grant, grant_in, granted}
 use Rattle.fk_spec.specs.Settling.{settled_in, settled_of, count_settling, is_committed, commits}
 use Rattle.fk_spec.specs.Stored.{committed_of, committed_in, with_filled, filled_after, stored_view}
-use Rattle.fk_spec.specs.Follower.{Follower, Granted, view_of, node_in}
+use Rattle.fk_spec.specs.Follower.{Follower, Granted, view_of, node_in, paths_of}
 use Rattle.fk_spec.specs.Follower as follower
 use Rattle.fk_spec.specs.Function.{Following, place_of}
 use Rattle.fk_spec.specs.Next.{IsHistory}
 use Rattle.fk_law.specs.Due.{IsDue, IsPushOf}
 use Rattle.fk_law.specs.Losing.{IsOwn, IsLive}
 use Rattle.fk_law.specs.Progress.{Works, progress}
-use Rattle.fk_law.specs.Seeing.{paths_of, AreCurrent, Locks}
+use Rattle.fk_law.specs.Seeing.{AreCurrent, Locks}
 use Rattle.fk_law.proofs.Due.{due}
 use Rattle.fk_law.proofs.Starting.{follower_task}
 use Rattle.fk_law.proofs.Pushing.{push_bound}

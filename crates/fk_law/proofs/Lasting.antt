@@ -21,7 +21,7 @@ use Rattle.fk_spec.specs.Start.{Push, pushes_of, count_push, pushed_in, request_
 use Rattle.fk_spec.specs.Locks.{last_grant, granted, granted_in}
 use Rattle.fk_spec.specs.Settling.{settled_of}
 use Rattle.fk_spec.specs.Stored.{committed_of, committed_in, with_filled, filled_after, up_to}
-use Rattle.fk_spec.specs.Follower.{Follower, Granted, node_in}
+use Rattle.fk_spec.specs.Follower.{Follower, Granted, node_in, paths_of}
 use Rattle.fk_spec.specs.Follower as follower
 use Rattle.fk_spec.specs.Function.{Following, place_of}
 use Rattle.fk_spec.specs.Next.{IsHistory}
@@ -29,7 +29,6 @@ use Rattle.fk_law.specs.Due.{IsDue, HoldsAll, IsPushOf, Refuses}
 use Rattle.fk_law.specs.Losing.{IsLive}
 use Rattle.fk_law.specs.Progress.{Works, progress}
 use Rattle.fk_law.specs.Refusing.{RefusalHoldsForEver}
-use Rattle.fk_law.specs.Seeing.{paths_of}
 use Rattle.fk_law.proofs.Due.{due}
 use Rattle.fk_law.proofs.Starting.{follower_task}
 use Rattle.fk_law.proofs.Pushing.{push_bound}

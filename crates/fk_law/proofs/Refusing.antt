@@ -24,7 +24,7 @@ use Rattle.fk_spec.specs.Start.{request_of, seen_with}
 use Rattle.fk_spec.specs.Locks.{last_grant, granted}
 use Rattle.fk_spec.specs.Settling.{settled_of, last_of_session}
 use Rattle.fk_spec.specs.Stored.{committed_of, committed_in, with_filled, stored_view, last_edit, up_to}
-use Rattle.fk_spec.specs.Follower.{Follower, Granted, node_in, view_of, greatest_last, refusal_number, next_with, to_begin}
+use Rattle.fk_spec.specs.Follower.{Follower, Granted, node_in, view_of, greatest_last, refusal_number, next_with, to_begin, paths_of}
 use Rattle.fk_spec.specs.Follower as follower
 use Rattle.fk_spec.specs.Function.{Following, place_of, actor}
 use Rattle.fk_spec.specs.Next.{IsHistory}
@@ -33,7 +33,7 @@ use Rattle.fk_law.specs.Losing.{IsOwn}
 use Rattle.fk_law.specs.Numbered.{numbered}
 use Rattle.fk_law.specs.Progress.{Works, progress}
 use Rattle.fk_law.specs.Refusing.{ClosedAtItsNumber, RefusalHoldsAtItsNumber}
-use Rattle.fk_law.specs.Seeing.{paths_of, AreCurrent}
+use Rattle.fk_law.specs.Seeing.{AreCurrent}
 use Rattle.fk_law.proofs.Due.{due}
 use Rattle.fk_law.proofs.Moving.{ahead}
 use Rattle.fk_law.proofs.Standing.{OnStanding, standing_step}

@@ -23,14 +23,14 @@ use Rattle.fk_spec.specs.Start.{Follows, clock_of, task_of, push_of, request_of,
 use Rattle.fk_spec.specs.Locks.{is_push_of, last_grant, grant_in}
 use Rattle.fk_spec.specs.Settling.{settled_of, last_of_session}
 use Rattle.fk_spec.specs.Stored.{committed_of, stored_view}
-use Rattle.fk_spec.specs.Follower.{Follower, Granted, node_in, view_of, next_with, to_lock, to_begin, begin}
+use Rattle.fk_spec.specs.Follower.{Follower, Granted, node_in, view_of, next_with, to_lock, to_begin, begin, paths_of}
 use Rattle.fk_spec.specs.Follower as follower
 use Rattle.fk_spec.specs.Function.{Following, place_of, actor}
 use Rattle.fk_spec.specs.Next.{IsHistory}
 use Rattle.fk_law.specs.Due.{IsDue}
 use Rattle.fk_law.specs.Losing.{IsOwn, IsLive}
 use Rattle.fk_law.specs.Progress.{Works, progress, progress_after}
-use Rattle.fk_law.specs.Seeing.{paths_of, IsCurrent, AreCurrent, Locks}
+use Rattle.fk_law.specs.Seeing.{IsCurrent, AreCurrent, Locks}
 use Rattle.fk_law.proofs.Due.{due}
 use Rattle.fk_law.proofs.Moving.{ahead}
 use Rattle.fk_law.proofs.Standing.{OnStanding, standing_step}

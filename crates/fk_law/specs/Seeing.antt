@@ -13,16 +13,12 @@ use Rattle.fk_spec.specs.Start.{request_of, seen_with}
 use Rattle.fk_spec.specs.Locks.{last_grant, granted}
 use Rattle.fk_spec.specs.Settling.{settled_of}
 use Rattle.fk_spec.specs.Stored.{stored_view, last_edit}
-use Rattle.fk_spec.specs.Follower.{Follower, Granted, view_of, refusal_number}
+use Rattle.fk_spec.specs.Follower.{Follower, Granted, view_of, refusal_number, paths_of}
 use Rattle.fk_spec.specs.Follower as follower
 use Rattle.fk_spec.specs.Function.{Following, place_of}
 use Rattle.fk_spec.specs.Next.{IsHistory}
 use Rattle.fk_law.specs.Losing.{IsOwn}
 use Rattle.fk_law.specs.Progress.{Works, progress}
-
-abbrev pub paths_of : List Granted → List PathNames
-paths_of [] = []
-paths_of (g ∷ gs) = g.path ∷ paths_of gs
 
 -- A follower's records are of the paths that it was granted, in the order of the grants.
 abbrev pub RecordsAreOfItsGrants : Type 0
