@@ -1,4 +1,5 @@
 mod Carried
+mod Committing
 mod Listing
 mod Locking
 mod Telling

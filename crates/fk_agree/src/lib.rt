@@ -3,5 +3,7 @@
 #![tactic(auto)]
 
 mod pushes;
+mod tables;
 
 pub use pushes::{message_tells_its_push, push_is_its_commit};
+pub use tables::commit_is_written;
