@@ -1,5 +1,6 @@
 mod Carried
 mod Committing
+mod Granting
 mod Listing
 mod Locking
 mod Telling

@@ -2,3 +2,4 @@ pub use Rattle.fk_stand.specs.Messages
 pub use Rattle.fk_stand.specs.Tables
 pub mod Commits
 pub mod Pushes
+pub mod Records
