@@ -3,5 +3,6 @@ mod Committing
 mod Granting
 mod Listing
 mod Locking
+mod Settling
 mod Telling
 mod Writing

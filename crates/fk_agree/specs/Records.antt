@@ -1,15 +1,24 @@
 -- The table after the other lines of a history.
-use Rattle.std.specs.Prelude.{◌≡◌, ℕ, List, [], ◌∷◌, length}
+use Rattle.std.specs.Prelude.{◌≡◌, ℕ, List, [], ◌∷◌, length, Some}
 use Rattle.fk_base.specs.Path.{PathNames}
+use Rattle.fk_base.specs.declared.code.Code.{Code}
+use Rattle.fk_tree.specs.Sorted.{has_path}
 use Rattle.fk_print.specs.declared.entry.Entry.{Entry}
 use Rattle.fk_print.specs.declared.op.Op.{Op}
 use Rattle.fk_print.specs.declared.op.Op.TheVariants as op
 use Rattle.fk_store.specs.Meaning.{new_table}
-use Rattle.fk_store.specs.Writes.{written}
+use Rattle.fk_store.specs.Writes.{all_written, written}
+use Rattle.fk_store.specs.declared.outcome.Outcome.TheVariants as kept
 use Rattle.fk_store.specs.declared.write.Write.TheVariants as write
-use Rattle.fk_stand.specs.Tables.{table_after}
+use Rattle.fk_settle.specs.Transaction.{refuse_writes}
+use Rattle.fk_stand.specs.Tables.{kept_as, table_after}
 use Rattle.fk_spec.specs.Plan.{Plan}
 use Rattle.fk_spec.specs.Start.{clock_of}
+use Rattle.fk_spec.specs.Locks.{granted, loss_of}
+use Rattle.fk_spec.specs.Settling.{Passed}
+use Rattle.fk_spec.specs.Follower.{Follower}
+use Rattle.fk_spec.specs.Follower as follower
+use Rattle.fk_spec.specs.Function.{Following, place_of}
 use Rattle.fk_spec.specs.Next.{IsHistory}
 
 -- A new table for so many sessions is what the rules say of no history.
@@ -37,3 +46,20 @@ abbrev pub GrantIsWritten : Type 0
 GrantIsWritten =
     (p : Plan) (n faults : ℕ) (path : PathNames) (e : Entry) (h : List Entry) → IsHistory p (e ∷ h) → e.op ≡ op.LockOk n path
     → written (write.Grant path n (clock_of h)) (table_after p h faults) ≡ table_after p (e ∷ h) faults
+
+-- A refusal is what its writes make, where these release the paths that its follower was granted.
+abbrev pub RefusalIsWritten : Type 0
+RefusalIsWritten =
+    (p : Plan) (n place at faults : ℕ) (code : Code) (e : Entry) (h : List Entry) (f : Follower) (paths : List PathNames) → IsHistory p (e ∷ h) → e.op ≡ op.RefuseOk n code place at → place_of p n h ≡ Following f
+    → ((q : PathNames) → has_path q paths ≡ has_path q (granted n h))
+    → all_written (refuse_writes f.session f.k (kept.Refused code at place) paths) (table_after p h faults) ≡ table_after p (e ∷ h) faults
+
+-- A follower that refuses a request of a closed session was granted nothing.
+abbrev pub ExpiredIsGrantedNothing : Type 0
+ExpiredIsGrantedNothing = (p : Plan) (n at : ℕ) (h : List Entry) (f : Follower) → IsHistory p h → place_of p n h ≡ Following f → f.stage ≡ follower.Expire at → granted n h ≡ []
+
+-- A loss is what its write makes.
+abbrev pub LossIsWritten : Type 0
+LossIsWritten =
+    (p : Plan) (n faults : ℕ) (e : Entry) (h : List Entry) (f : Follower) → IsHistory p (e ∷ h) → e.op ≡ op.LostOk n → place_of p n h ≡ Following f
+    → all_written (refuse_writes f.session f.k (kept_as (Some (Passed (loss_of n h)))) []) (table_after p h faults) ≡ table_after p (e ∷ h) faults
