@@ -1,5 +1,6 @@
 mod Carried
 mod Committing
+mod Finishing
 mod Granting
 mod Listing
 mod Locking

@@ -13,13 +13,14 @@ use Rattle.fk_store.specs.declared.write.Write.TheVariants as write
 use Rattle.fk_settle.specs.Transaction.{refuse_writes}
 use Rattle.fk_stand.specs.Tables.{kept_as, table_after}
 use Rattle.fk_spec.specs.Plan.{Plan}
-use Rattle.fk_spec.specs.Start.{clock_of}
+use Rattle.fk_spec.specs.Start.{Probes, clock_of, task_of}
 use Rattle.fk_spec.specs.Locks.{granted, loss_of}
 use Rattle.fk_spec.specs.Settling.{Passed}
 use Rattle.fk_spec.specs.Follower.{Follower}
 use Rattle.fk_spec.specs.Follower as follower
 use Rattle.fk_spec.specs.Function.{Following, place_of}
 use Rattle.fk_spec.specs.Next.{IsHistory}
+use Rattle.fk_law.specs.Due.{IsPushOf}
 
 -- A new table for so many sessions is what the rules say of no history.
 abbrev pub NewTableStands : Type 0
@@ -63,3 +64,25 @@ abbrev pub LossIsWritten : Type 0
 LossIsWritten =
     (p : Plan) (n faults : ℕ) (e : Entry) (h : List Entry) (f : Follower) → IsHistory p (e ∷ h) → e.op ≡ op.LostOk n → place_of p n h ≡ Following f
     → all_written (refuse_writes f.session f.k (kept_as (Some (Passed (loss_of n h)))) []) (table_after p h faults) ≡ table_after p (e ∷ h) faults
+
+-- A push that is done, or dropped, is what its writes make: the number done, and one pending commit less.
+abbrev pub FinishIsWritten : Type 0
+FinishIsWritten =
+    (p : Plan) (n t m c k faults : ℕ) (e : Entry) (h : List Entry) → IsHistory p (e ∷ h) → e.op ≡ op.DoneOk n t → IsPushOf t m c k h
+    → all_written (write.Done t ∷ write.PopPending c t ∷ []) (table_after p h faults) ≡ table_after p (e ∷ h) faults
+
+abbrev pub DropIsWritten : Type 0
+DropIsWritten =
+    (p : Plan) (n t faults : ℕ) (e : Entry) (h : List Entry) → IsHistory p (e ∷ h) → e.op ≡ op.DropOk n t
+    → all_written (write.Done t ∷ []) (table_after p h faults) ≡ table_after p (e ∷ h) faults
+
+-- A ping that is noted, and an answer to one, are what their writes make.
+abbrev pub PingIsWritten : Type 0
+PingIsWritten =
+    (p : Plan) (n c faults : ℕ) (e : Entry) (h : List Entry) → e.op ≡ op.NoteOk n → task_of n h ≡ Some (Probes c)
+    → all_written (write.Ping c n (clock_of h) ∷ []) (table_after p h faults) ≡ table_after p (e ∷ h) faults
+
+abbrev pub PongIsWritten : Type 0
+PongIsWritten =
+    (p : Plan) (c ping faults : ℕ) (e : Entry) (h : List Entry) → e.op ≡ op.Pong c ping
+    → written (write.Pong c ping) (table_after p h faults) ≡ table_after p (e ∷ h) faults

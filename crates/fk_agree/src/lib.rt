@@ -6,4 +6,7 @@ mod pushes;
 mod tables;
 
 pub use pushes::{message_tells_its_push, push_is_its_commit};
-pub use tables::commit_is_written;
+pub use tables::{
+    commit_is_written, finish_is_written, grant_is_written, ping_is_written, refusal_is_written,
+    table_starts_and_stays,
+};
