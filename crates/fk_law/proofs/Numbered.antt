@@ -111,7 +111,7 @@ one_more_step n b a rest m k u i e = by_push (nat_eq b.tx (suc n)) refl e
     by_push true v e = subst (λ x. view_after (up_to (suc n) (b ∷ rest)) ≡ after (view_after (up_to n (b ∷ rest))) x) (same b a e) (first v)
     by_push false v e = ap (λ z. view_after (cond z (b ∷ up_to (suc n) rest) (up_to (suc n) rest))) (same_test b.tx n v) ∙ later e (nat_le b.tx n) refl
 
-one_more : (n : ℕ) (done : List Applied) (a : Applied) → AllNewest done → AllOnce done → applied_as (suc n) done ≡ Some a → view_after (up_to (suc n) done) ≡ after (view_after (up_to n done)) a
+pub one_more : (n : ℕ) (done : List Applied) (a : Applied) → AllNewest done → AllOnce done → applied_as (suc n) done ≡ Some a → view_after (up_to (suc n) done) ≡ after (view_after (up_to n done)) a
 one_more n [] a m u e = absurd (grind arith)
 one_more n (b ∷ rest) a m u e = one_more_step n b a rest m.0 m.1 u.0 (one_more n rest a m.1 u.1) e
 
