@@ -21,7 +21,7 @@ use Rattle.fk_spec.specs.Stored.{owned_among}
 use Rattle.fk_spec.specs.Watches.{firing_of, swept_by}
 use Rattle.fk_spec.specs.Lanes as lanes
 use Rattle.fk_spec.specs.Lanes.{posted_in}
-use Rattle.fk_spec.specs.Follower.{Follower, Granted, view_of}
+use Rattle.fk_spec.specs.Follower.{Follower, paths_of, view_of}
 use Rattle.fk_spec.specs.Function.{Place, Following, place_of}
 
 -- ---- a session's lane
@@ -34,9 +34,6 @@ abbrev pub sent_message : Plan → ℕ → List Entry → Op → Option Sent
 sent_message p c h o = sent_from p c (sent_in c h o)
 
 -- ---- the leader's lane
-
-abbrev pub paths_of : List Granted → List PathNames
-paths_of gs = map (λ g. g.path) gs
 
 -- of the nodes that its session owned, those that it owns in the granted records
 abbrev pub gone_of : Follower → Request → List PathNames
