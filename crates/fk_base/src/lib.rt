@@ -37,6 +37,3 @@ pub use sink::{Put, Sink, WriteAll, write_all};
 pub use source::{Got, LIMIT, ReadAll, Source, read_all};
 pub use standard::{StdSink, StdSource};
 pub use text::Text;
-
-#[cfg(test)]
-mod tests;

@@ -5,4 +5,3 @@ pub mod Finding
 pub mod Watching
 pub mod Wants
 pub mod Steps
-pub mod Trying

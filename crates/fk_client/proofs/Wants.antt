@@ -64,10 +64,3 @@ begins_in q u m (Some a) w x e = rw x (step (may_begin m.asks a m.client.sent) e
 
 pub begins : (q : post.Meaning) (u : user.Meaning) (m : Meaning) (w : Want) → Wants (next_asked m) w → waits_next m (next_asked m) ≡ false → next_command_op q u m (next_asked m) ≡ begin_op q u m.session (m.client.begun + 1) m.client.closed w
 begins q u m w x e = begins_in q u m (next_asked m) w x e
-
-limited_as : (w v : Want) → v ≡ w → IsLimitedWant w → IsLimitedWant v
-limited_as w v e l = subst IsLimitedWant (sym e) l
-
-pub limited_ask : (o : Option Ask) (w : Want) → Wants o w → IsLimitedWant w → IsLimitedAsk o
-limited_ask None w x l = absurd x
-limited_ask (Some a) w x l = limited_as w a.want x l

@@ -11,6 +11,5 @@ pub mod Services
 pub mod Shown
 pub mod Standing
 pub mod Told
-pub mod Tried
 pub mod Unready
 pub mod Wanted

@@ -13,8 +13,6 @@ mod registering;
 mod replying;
 mod stepping;
 mod taking;
-#[cfg(test)]
-mod tests;
 mod unanswered;
 mod want;
 

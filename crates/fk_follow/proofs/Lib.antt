@@ -4,4 +4,3 @@ pub mod Items
 pub mod Listing
 pub mod Owning
 pub mod Stages
-pub mod Trying

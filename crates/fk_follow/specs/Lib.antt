@@ -8,5 +8,4 @@ pub mod Said
 pub mod Sending
 pub mod Services
 pub mod Standing
-pub mod Tried
 pub mod Worked

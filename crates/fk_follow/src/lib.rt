@@ -15,8 +15,6 @@ mod state;
 mod stepping;
 mod taking;
 mod telling;
-#[cfg(test)]
-mod tests;
 mod transacting;
 mod worked;
 

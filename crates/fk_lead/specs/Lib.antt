@@ -7,4 +7,3 @@ pub mod Sending
 pub mod Services
 pub mod Standing
 pub mod Sweeping
-pub mod Tried

@@ -12,7 +12,5 @@ mod state;
 mod stepping;
 mod sweeping;
 mod telling;
-#[cfg(test)]
-mod tests;
 
 pub use leader::Leader;

@@ -19,8 +19,6 @@ mod op_text;
 mod piece;
 mod reply_text;
 mod summary_text;
-#[cfg(test)]
-mod tests;
 mod worked;
 
 pub use entry::Entry;

@@ -9,8 +9,6 @@ mod laws;
 mod letter;
 mod post;
 mod queue;
-#[cfg(test)]
-mod tests;
 
 pub use answer::{Ack, Posted};
 pub use lane::Lane;

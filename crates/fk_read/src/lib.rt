@@ -16,8 +16,6 @@ mod op;
 mod piece;
 mod reading;
 mod reply;
-#[cfg(test)]
-mod tests;
 mod unread;
 mod words;
 

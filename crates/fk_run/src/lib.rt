@@ -6,6 +6,3 @@ mod top;
 mod write;
 
 pub use top::fk_run;
-
-#[cfg(test)]
-mod tests;

@@ -36,8 +36,3 @@ pub use read::read_script;
 pub use why::Why;
 pub use word_laws::{data_is_encoded, numbers_are_decimal};
 pub use worked::{crowded_is_read, offenders_are_judged, service_is_read};
-
-#[cfg(test)]
-mod print_tests;
-#[cfg(test)]
-mod tests;

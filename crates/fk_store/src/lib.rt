@@ -15,8 +15,6 @@ mod rows;
 mod session_record;
 mod sessions;
 mod table;
-#[cfg(test)]
-mod tests;
 mod write;
 
 pub use answer::{Owned, Seen, Taken, Transact};

@@ -22,8 +22,6 @@ mod request;
 mod rows;
 mod sequence;
 mod slots;
-#[cfg(test)]
-mod tests;
 mod touch_list;
 mod touch_set;
 mod tree;

@@ -9,8 +9,6 @@ mod record;
 mod record_map;
 mod records;
 mod store_laws;
-#[cfg(test)]
-mod tests;
 mod user_store;
 
 pub use answer::{Publish, PutRecord, UserLook, UserRead};

@@ -13,8 +13,6 @@ mod set_watches;
 mod sweeps;
 mod table;
 mod teller;
-#[cfg(test)]
-mod tests;
 mod watch;
 
 pub use answer::{Register, Sweep, Told};

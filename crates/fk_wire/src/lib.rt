@@ -15,10 +15,6 @@ mod sent;
 mod tell;
 mod tell_reading;
 mod tell_writing;
-#[cfg(test)]
-mod tests;
-#[cfg(test)]
-mod tests_tell;
 mod version;
 mod watches;
 mod writing;
