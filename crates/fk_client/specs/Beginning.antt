@@ -43,4 +43,4 @@ read_at u path = if u.armed then None else Some (record { node = (u.records path
 
 -- the post after a request was sent, where there is memory
 abbrev pub posted : ℕ → ℕ → Request → post.Meaning → post.Meaning
-posted session seen r q = if q.armed then post.called q else post.pushed (lane.Session session) (sent_text version.Two (message_of seen r)) q
+posted session seen r q = post.posted (lane.Session session) (sent_text version.Two (message_of seen r)) q

@@ -14,7 +14,8 @@ use Rattle.fk_store.specs.Meaning.{Meaning}
 use Rattle.fk_tree.specs.Check.{Refusal}
 use Rattle.fk_spec.specs.Follower.{Follower, ack_op, commit_locked, refuse_locked}
 use Rattle.fk_settle.specs.Held.{Passed, first_passed}
-use Rattle.fk_follow.specs.Operation.{commit_op, locked, lost_op, or_fault, passed_as}
+use Rattle.fk_spec.specs.Failing.{or_fault}
+use Rattle.fk_follow.specs.Operation.{commit_op, locked, lost_op, passed_as}
 use Rattle.fk_settle.specs.Verdicts.{verdict_of, verdict_on}
 use Rattle.fk_follow.specs.Said.{ack_by, commit_by, lost_by, refuse_by, refuse_on}
 use Rattle.fk_settle.specs.declared.settling.Verdict.TheVariants as verdict

@@ -45,11 +45,15 @@ pub record IsFit (t : table.Meaning) (q : post.Meaning) (now : ℕ) (m : Meaning
   pub session : HasSession t q m.follower.session
   pub limits : IsLimited now m
 
+-- where the table isn't armed, these are the paths that it gives for the session's nodes; there is one such list
+abbrev pub IsListOf : table.Meaning → ℕ → List PathNames → Type 0
+IsListOf t session owned = t.armed ≡ false → AreOwned t session owned
+
 -- Where the follower asks for its session's nodes, these are the paths that the table gives; another operation
 -- reads no such list.
 abbrev pub IsReadAt : table.Meaning → ℕ → List PathNames → Stage → Type 0
 IsReadAt t session owned stage.Session = ⊤
-IsReadAt t session owned stage.Owned = AreOwned t session owned
+IsReadAt t session owned stage.Owned = IsListOf t session owned
 IsReadAt t session owned (stage.Lock path) = ⊤
 IsReadAt t session owned stage.Push = ⊤
 IsReadAt t session owned (stage.Refuse refusal at) = ⊤

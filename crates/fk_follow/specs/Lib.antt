@@ -5,6 +5,7 @@ pub mod Next
 pub mod Operation
 pub mod Reading
 pub mod Said
+pub mod Sending
 pub mod Services
 pub mod Standing
 pub mod Worked

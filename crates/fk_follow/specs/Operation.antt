@@ -6,7 +6,6 @@ use Rattle.fk_tree.specs.Check.{Refusal}
 use Rattle.fk_tree.specs.Sorted.{in_path_order}
 use Rattle.fk_print.specs.declared.op.Op.{Op}
 use Rattle.fk_print.specs.declared.op.Op.TheVariants as op
-use Rattle.fk_print.specs.declared.op.Word.{Word}
 use Rattle.fk_queue.specs.Letters.{head_number}
 use Rattle.fk_queue.specs.Meaning as post
 use Rattle.fk_queue.specs.declared.lane.Lane.TheVariants as lane
@@ -20,6 +19,7 @@ use Rattle.fk_store.specs.declared.outcome.Outcome.TheVariants as kept
 use Rattle.fk_store.specs.declared.session_record.SessionRecord.{SessionRecord}
 use Rattle.fk_spec.specs.Follower.{Follower, Granted, Stage, ack_op, commit_locked, refuse_locked, unsettled_op}
 use Rattle.fk_spec.specs.Follower as stage
+use Rattle.fk_spec.specs.Failing.{or_fault}
 use Rattle.fk_spec.specs.Function.{follower_word}
 use Rattle.fk_spec.specs.Locks as locks
 use Rattle.fk_settle.specs.Held.{Passed, first_passed}
@@ -100,9 +100,6 @@ is_armed t q stage.Lost = t.armed
 is_armed t q stage.Reply = q.armed
 is_armed t q stage.Ack = q.armed
 is_armed t q stage.Ended = false
-
-abbrev pub or_fault : Bool → ℕ → Word → Op → Op
-or_fault armed n word o = if armed then op.Fault n word else o
 
 -- The operation that a follower makes on these services at this moment, where locks pass on after `time`.
 abbrev pub step_op : table.Meaning → post.Meaning → ℕ → ℕ → List PathNames → Meaning → Op

@@ -1,12 +1,18 @@
 -- What is read of the table, in a follower's words.
-use Rattle.std.specs.Prelude.{ℕ, Bool, true, false, if◌then◌else◌}
+use Rattle.std.specs.Prelude.{◌≡◌, ℕ, Bool, true, false, if◌then◌else◌, List, Option, Some, None}
 use Rattle.fk_base.specs.Path.{PathNames}
+use Rattle.fk_store.specs.Answers.{AreOwned}
 use Rattle.fk_store.specs.Locks.{is_free}
 use Rattle.fk_store.specs.Meaning.{Meaning, lock_of, or_no_record}
 use Rattle.fk_follow.specs.declared.reading.Took.{Took}
 use Rattle.fk_follow.specs.declared.reading.Took.TheVariants as took
 use Rattle.fk_settle.specs.declared.settling.Verdict.{Verdict}
 use Rattle.fk_settle.specs.declared.settling.Verdict.TheVariants as verdict
+
+-- what a table gives for a session's nodes: their paths, and none where it is armed
+abbrev pub IsGiven : Meaning → ℕ → Option (List PathNames) → Type 0
+IsGiven t session None = t.armed ≡ true
+IsGiven t session (Some owned) = AreOwned t session owned
 
 -- what becomes of taking a lock
 abbrev pub took_of : Meaning → PathNames → ℕ → ℕ → Took

@@ -8,7 +8,7 @@ use Rattle.fk_tree.specs.declared.request.Request.{Request}
 use Rattle.fk_tree.specs.declared.request.Request.TheVariants as request
 use Rattle.fk_queue.specs.Answers.{ack_of, after_ack}
 use Rattle.fk_queue.specs.Meaning as post
-use Rattle.fk_queue.specs.declared.lane.Lane.{Lane}
+use Rattle.fk_queue.specs.Meaning.{posted}
 use Rattle.fk_queue.specs.declared.lane.Lane.TheVariants as lane
 use Rattle.fk_store.specs.Locks.{is_free}
 use Rattle.fk_store.specs.Meaning as table
@@ -65,10 +65,6 @@ kept_tell k (kept.Refused code at place) = Some (tell.Refused k code at place)
 kept_tell k (kept.Lost path own found moment) = Some (tell.Lost k path own found moment)
 
 -- ---- the post
-
--- the post after a push that doesn't want memory
-abbrev pub posted : Lane → List ℕ → post.Meaning → post.Meaning
-posted l bytes q = if q.armed then post.called q else post.pushed l bytes q
 
 abbrev pub told : ℕ → Option Tell → post.Meaning → post.Meaning
 told session None q = q

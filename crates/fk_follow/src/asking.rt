@@ -4,13 +4,14 @@ ghost use Rattle.std.specs.Prelude.{◌≡◌, ◌≤◌, ◌+◌, ◌≢◌, �
 ghost use Rattle.fk_base.specs.Path.{PathNames};
 ghost use Rattle.fk_print.specs.declared.op.Op.TheVariants as op;
 ghost use Rattle.fk_print.specs.declared.op.Word.TheVariants as word;
-ghost use Rattle.fk_store.specs.Answers.{AreOwned};
 ghost use Rattle.fk_store.specs.Conds.{session_of};
 ghost use Rattle.fk_store.specs.Meaning.{Meaning, called};
 ghost use Rattle.fk_store.specs.declared.outcome.Outcome.TheVariants as outcome;
 ghost use Rattle.fk_tree.specs.Check.{HasFewParts};
+ghost use Rattle.fk_follow.specs.Fit.{IsListOf};
 ghost use Rattle.fk_follow.specs.Next.{next_with};
-ghost use Rattle.fk_follow.specs.Operation.{or_fault, session_op, settled_op};
+ghost use Rattle.fk_spec.specs.Failing.{or_fault};
+ghost use Rattle.fk_follow.specs.Operation.{session_op, settled_op};
 ghost use Rattle.fk_spec.specs.Follower.{unsettled_op};
 ghost use Rattle.fk_follow.specs.Standing.{follower_of};
 
@@ -101,8 +102,9 @@ impl Follower {
     pub(crate) fn list<T: Table>(&mut self, table: &mut T) -> Result<Op, NoMemory>
         requires parts { HasFewParts self.old.message.request }
         requires session { is_some ((T.meaning table.old).sessions self.old.session) ≡ true }
-        ensures op { (owned : List PathNames) → AreOwned (T.meaning table.old) self.old.session owned → IfOk result (λ o. o ≡ or_fault (T.meaning table.old).armed self.old.inv word.Owned (op.Owned self.old.inv (length owned))) }
-        ensures follower { (owned : List PathNames) (now : ℕ) → AreOwned (T.meaning table.old) self.old.session owned → IfOk result (λ o. follower_of self.new ≡ next_with (T.meaning table.old) owned now o (follower_of self.old)) }
+        ensures op { (owned : List PathNames) → IsListOf (T.meaning table.old) self.old.session owned → IfOk result (λ o. o ≡ or_fault (T.meaning table.old).armed self.old.inv word.Owned (op.Owned self.old.inv (length owned))) }
+        ensures follower { (owned : List PathNames) (now : ℕ) → IsListOf (T.meaning table.old) self.old.session owned → IfOk result (λ o. follower_of self.new ≡ next_with (T.meaning table.old) owned now o (follower_of self.old)) }
+        ensures given { OnOk result (IsListOf (T.meaning table.old) self.old.session (follower_of self.new).follower.owned) }
         ensures table { OnOk result (T.meaning table.new ≡ called (T.meaning table.old)) }
     {
         let Some(paths) = owned_at(table, self.session)? else {

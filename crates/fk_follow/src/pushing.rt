@@ -13,10 +13,12 @@ ghost use Rattle.fk_spec.specs.Follower.{view_of};
 ghost use Rattle.fk_spec.specs.Stored.{is_owned_by, owned_among};
 ghost use Rattle.fk_wire.specs.Limits.{IsLimitedRequest, IsNumber};
 ghost use Rattle.fk_wire.specs.PushedText.{pushed_text};
+ghost use Rattle.fk_wire.specs.Readable.{IsPushedReadable};
 ghost use Rattle.fk_wire.specs.declared.version.Version.TheVariants as version;
 ghost use Rattle.fk_follow.specs.Next.{next_with};
-ghost use Rattle.fk_follow.specs.Operation.{or_fault};
-ghost use Rattle.fk_follow.specs.Services.{gone_of, posted, push_at};
+ghost use Rattle.fk_spec.specs.Failing.{or_fault};
+ghost use Rattle.fk_queue.specs.Meaning.{posted};
+ghost use Rattle.fk_follow.specs.Services.{gone_of, push_at};
 ghost use Rattle.fk_follow.specs.Standing.{follower_of};
 
 use crate::deciding::rows_of;
@@ -101,6 +103,7 @@ impl Follower {
         ensures op { IfOk result (λ o. o ≡ or_fault (post_of post.old).armed self.old.inv word.Push (op.Push self.old.inv (((post_of post.old).lanes lane.Leader).given + 1))) }
         ensures follower { (t : Meaning) (owned : List PathNames) → IfOk result (λ o. follower_of self.new ≡ next_with t owned now o (follower_of self.old)) }
         ensures post { OnOk result (post_of post.new ≡ posted lane.Leader (pushed_text version.Two (push_at now (follower_of self.old))) (post_of post.old)) }
+        ensures sent { OnOk result (IsPushedReadable (push_at now (follower_of self.old))) }
     {
         let push = self.pushed(now)?;
         let text = encode_pushed(self.alloc, &push)?;

@@ -2,10 +2,10 @@
 
 ghost use Rattle.std.specs.Prelude.{◌≡◌, List, true, is_some, if◌then◌else◌, None, Some, IfOk, OnOk};
 ghost use Rattle.fk_base.specs.Path.{PathNames};
-ghost use Rattle.fk_store.specs.Answers.{AreOwned};
 ghost use Rattle.fk_store.specs.Conds.{session_of};
 ghost use Rattle.fk_store.specs.Meaning.{called};
-ghost use Rattle.fk_follow.specs.Reading.{took_of};
+ghost use Rattle.fk_follow.specs.Fit.{IsListOf};
+ghost use Rattle.fk_follow.specs.Reading.{IsGiven, took_of};
 ghost use Rattle.fk_follow.specs.Services.{taken};
 
 use fk_base::{NoMemory, Path, Paths};
@@ -36,7 +36,8 @@ pub fn session_at<T: Table>(table: &mut T, session: u32) -> Result<Option<Sessio
 /// The paths of a session's nodes, or none where the table fails.
 pub fn owned_at<T: Table>(table: &mut T, session: u32) -> Result<Option<Paths>, NoMemory>
     requires { is_some ((T.meaning table.old).sessions session) ≡ true }
-    ensures owned { (owned : List PathNames) → AreOwned (T.meaning table.old) session owned → IfOk result (λ o. o ≡ (if (T.meaning table.old).armed then None else Some owned)) }
+    ensures given { IfOk result (λ o. IsGiven (T.meaning table.old) session o) }
+    ensures owned { (owned : List PathNames) → IsListOf (T.meaning table.old) session owned → IfOk result (λ o. o ≡ (if (T.meaning table.old).armed then None else Some owned)) }
     ensures table { OnOk result (T.meaning table.new ≡ called (T.meaning table.old)) }
 {
     match table.owned(session) {

@@ -6,6 +6,7 @@ ghost use Rattle.fk_queue.specs.Posts.{post_of};
 ghost use Rattle.fk_follow.specs.Fit.{IsFit, IsRead};
 ghost use Rattle.fk_follow.specs.Next.{after_step, next_with};
 ghost use Rattle.fk_follow.specs.Operation.{step_op};
+ghost use Rattle.fk_follow.specs.Sending.{IsReadable};
 ghost use Rattle.fk_follow.specs.Services.{post_after_step, table_after_step};
 ghost use Rattle.fk_follow.specs.Standing.{follower_of};
 
@@ -29,8 +30,10 @@ impl Follower {
         requires { IsFit (T.meaning table.old) (post_of post.old) now (follower_of self.old) }
         ensures op { (owned : List PathNames) → IsRead (T.meaning table.old) owned (follower_of self.old) → IfOk result (λ o. o ≡ step_op (T.meaning table.old) (post_of post.old) now lock owned (follower_of self.old)) }
         ensures follower { (owned : List PathNames) → IsRead (T.meaning table.old) owned (follower_of self.old) → OnOk result (follower_of self.new ≡ after_step (T.meaning table.old) (post_of post.old) now lock owned (follower_of self.old)) }
+        ensures given { OnOk result (IsRead (T.meaning table.old) (follower_of self.new).follower.owned (follower_of self.old)) }
         ensures table { OnOk result (T.meaning table.new ≡ table_after_step (T.meaning table.old) now lock (follower_of self.old)) }
         ensures post { OnOk result (post_of post.new ≡ post_after_step (post_of post.old) now (follower_of self.old)) }
+        ensures sent { OnOk result (IsReadable now (follower_of self.old)) }
     {
         self.operate(table, post, now, lock)
     }
@@ -47,8 +50,10 @@ impl Follower {
         requires { IsFit (T.meaning table.old) (post_of post.old) now (follower_of self.old) }
         ensures op { (owned : List PathNames) → IsRead (T.meaning table.old) owned (follower_of self.old) → IfOk result (λ o. o ≡ step_op (T.meaning table.old) (post_of post.old) now lock owned (follower_of self.old)) }
         ensures follower { (owned : List PathNames) → IsRead (T.meaning table.old) owned (follower_of self.old) → IfOk result (λ o. follower_of self.new ≡ next_with (T.meaning table.old) owned now o (follower_of self.old)) }
+        ensures given { OnOk result (IsRead (T.meaning table.old) (follower_of self.new).follower.owned (follower_of self.old)) }
         ensures table { OnOk result (T.meaning table.new ≡ table_after_step (T.meaning table.old) now lock (follower_of self.old)) }
         ensures post { OnOk result (post_of post.new ≡ post_after_step (post_of post.old) now (follower_of self.old)) }
+        ensures sent { OnOk result (IsReadable now (follower_of self.old)) }
     {
         match self.state.copy()? {
             State::Session => self.ask(table),

@@ -7,7 +7,8 @@ ghost use Rattle.fk_store.specs.Meaning.{lock_of};
 ghost use Rattle.fk_tree.specs.Check.{HasFewParts};
 ghost use Rattle.fk_spec.specs.Follower.{to_lock};
 ghost use Rattle.fk_follow.specs.Next.{going_on, next_with, with_granted, with_own};
-ghost use Rattle.fk_follow.specs.Operation.{lock_op, or_fault};
+ghost use Rattle.fk_spec.specs.Failing.{or_fault};
+ghost use Rattle.fk_follow.specs.Operation.{lock_op};
 ghost use Rattle.fk_follow.specs.Services.{taken};
 ghost use Rattle.fk_follow.specs.Standing.{follower_of};
 

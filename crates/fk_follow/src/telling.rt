@@ -14,8 +14,9 @@ ghost use Rattle.fk_spec.specs.Follower.{ack_op};
 ghost use Rattle.fk_wire.specs.Limits.{IsNumber};
 ghost use Rattle.fk_follow.specs.Fit.{IsLimitedOutcome};
 ghost use Rattle.fk_follow.specs.Next.{next_with};
-ghost use Rattle.fk_follow.specs.Operation.{or_fault};
+ghost use Rattle.fk_spec.specs.Failing.{or_fault};
 ghost use Rattle.fk_follow.specs.Said.{ack_by};
+ghost use Rattle.fk_follow.specs.Sending.{IsToldReadable};
 ghost use Rattle.fk_follow.specs.Services.{kept_tell, told};
 ghost use Rattle.fk_follow.specs.Standing.{follower_of, outcome_of};
 
@@ -57,6 +58,7 @@ impl Follower {
         ensures op { IfOk result (λ o. o ≡ or_fault (post_of post.old).armed self.old.inv word.Reply (op.Reply self.old.inv self.old.session self.old.k)) }
         ensures follower { (t : Meaning) (owned : List PathNames) (now : ℕ) → IfOk result (λ o. follower_of self.new ≡ next_with t owned now o (follower_of self.old)) }
         ensures post { OnOk result (post_of post.new ≡ told self.old.session (kept_tell self.old.k (outcome_of kept)) (post_of post.old)) }
+        ensures sent { OnOk result (IsToldReadable (kept_tell self.old.k (outcome_of kept))) }
     {
         let tell = tell_of(self.k, kept);
         let text = encode_tell(self.alloc, &tell)?;

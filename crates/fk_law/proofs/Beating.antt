@@ -1,5 +1,5 @@
--- The heartbeats of a schedule are of clients.
-use Rattle.std.specs.Prelude.{◌==◌}
+-- The heartbeats of a history are of clients.
+use Rattle.std.specs.Prelude.{◌==◌, ◌≡◌}
 use Rattle.std.proofs.Common.{ℕ, ◌+◌, ◌++◌, Bool, true, false, List, [], ◌∷◌, sym, ap, subst, arith, Option, Some, None}
 use Rattle.std.proofs.lemmas.Bool.{cond_both}
 use Rattle.std.proofs.lemmas.Bool.Decides.{nat_tests}
@@ -9,9 +9,7 @@ use Rattle.fk_print.specs.declared.event.Event.{Event}
 use Rattle.fk_print.specs.declared.event.Event.TheVariants as event
 use Rattle.fk_print.specs.declared.op.Op.{Op}
 use Rattle.fk_print.specs.declared.op.Op.TheVariants as op
-use Rattle.fk_script.specs.declared.deployment.Turn.{Turn}
-use Rattle.fk_script.specs.declared.deployment.Turn.TheVariants as turn
-use Rattle.fk_spec.specs.Plan.{Plan, Ask, Want, Unfit, Writes, Reads, asked, plan_of}
+use Rattle.fk_spec.specs.Plan.{Plan, Ask, Want, Unfit, Writes, Reads, asked, is_client}
 use Rattle.fk_spec.specs.Start.{Task, Follows, Leads, Notifies, Probes, Push, starts_of, task_of, push_of, or_else}
 use Rattle.fk_spec.specs.Locks as locks
 use Rattle.fk_spec.specs.Locks.{granted, first_passed}
@@ -27,9 +25,8 @@ use Rattle.fk_spec.specs.Heartbeat.{beat_op}
 use Rattle.fk_spec.specs.Heartbeat as heartbeat
 use Rattle.fk_spec.specs.Function.{Place, Absent, Following, Leading, Telling, Beating, place_of, function_op, fault_op, in_flight}
 use Rattle.fk_spec.specs.Client.{Client, Sent, Reading, client_op, client_of, failed_op, pong_or, take_or, take_op, look_or, look_sent_or, look_op, watch_or, register_asked, next_command_op, begin_op, may_begin}
-use Rattle.fk_spec.specs.Next.{IsHistory, next_op, follow_op, lead_op, tell_op, crash_op}
-use Rattle.fk_spec.specs.Schedule.{crashes, drain_begin, is_idle, step_of_first, lead_where, tell_where, deliver_where, deliver_first, client_first, next_of_drain, Plays, Empties, Emptied, Goes, Drains, TakesTurns}
-use Rattle.fk_law.specs.Sessions.{BeatsAClient, BeatsClients, IsBeatOfAClient, TurnsBeatClients, ScheduledBeatsClients}
+use Rattle.fk_spec.specs.Next.{IsHistory, names_client, next_op, follow_op, lead_op, tell_op, crash_op}
+use Rattle.fk_law.specs.Sessions.{BeatsAClient, BeatsClients, HeartbeatsAreOfClients}
 
 -- Operations that start no heartbeat. -----------------------------------------------------------------
 
@@ -139,9 +136,9 @@ failed_none o d = grind arith
 
 -- Entries. --------------------------------------------------------------------------------------------
 
-none_beats : (o : Op) → NoBeat o → BeatsAClient o
-none_beats (op.Beat n c) d = absurd d
-none_beats o d = tt
+none_beats : (p : Plan) (o : Op) → NoBeat o → BeatsAClient p o
+none_beats p (op.Beat n c) d = absurd d
+none_beats p o d = tt
 
 follow_none : (n c : ℕ) (o : Option ℕ) → NoBeat (follow_op n c o)
 follow_none n c None = tt
@@ -155,100 +152,35 @@ tell_none : (n : ℕ) (o : Option ℕ) → NoBeat (tell_op n o)
 tell_none n None = tt
 tell_none n (Some w) = tt
 
-event_beats : (p : Plan) (h : List Entry) (v : Event) → IsBeatOfAClient v → BeatsAClient (next_op p h v)
-event_beats p h (event.Client c) i = none_beats (next_op p h (event.Client c)) (client_none p h c)
-event_beats p h (event.Deliver c) i = none_beats (next_op p h (event.Deliver c)) (follow_none (starts_of h + 1) c (session_head c h))
-event_beats p h event.Leader i = none_beats (next_op p h event.Leader) (lead_none (starts_of h + 1) (leader_head h))
-event_beats p h event.Watch i = none_beats (next_op p h event.Watch) (tell_none (starts_of h + 1) (watch_head h))
+-- a beat is of a client
+abbrev IsBeatOfAClient : Plan → Event → Type 0
+IsBeatOfAClient p (event.Beat session) = is_client p session ≡ true
+IsBeatOfAClient p _ = Unit {0}
+
+event_beats : (p : Plan) (h : List Entry) (v : Event) → IsBeatOfAClient p v → BeatsAClient p (next_op p h v)
+event_beats p h (event.Client c) i = none_beats p (next_op p h (event.Client c)) (client_none p h c)
+event_beats p h (event.Deliver c) i = none_beats p (next_op p h (event.Deliver c)) (follow_none (starts_of h + 1) c (session_head c h))
+event_beats p h event.Leader i = none_beats p (next_op p h event.Leader) (lead_none (starts_of h + 1) (leader_head h))
+event_beats p h event.Watch i = none_beats p (next_op p h event.Watch) (tell_none (starts_of h + 1) (watch_head h))
 event_beats p h (event.Beat c) i = i
-event_beats p h (event.Step n) i = none_beats (next_op p h (event.Step n)) (function_none p h n (place_of p n h))
-event_beats p h (event.Crash n) i = none_beats (next_op p h (event.Crash n)) (crash_none (place_of p n h))
+event_beats p h (event.Step n) i = none_beats p (next_op p h (event.Step n)) (function_none p h n (place_of p n h))
+event_beats p h (event.Crash n) i = none_beats p (next_op p h (event.Crash n)) (crash_none (place_of p n h))
   where
     crash_none : (x : Place) → NoBeat (crash_op n x)
     crash_none Absent = tt
     crash_none x = tt
-event_beats p h (event.Fail n) i = none_beats (next_op p h (event.Fail n)) (fault_none (place_of p n h))
+event_beats p h (event.Fail n) i = none_beats p (next_op p h (event.Fail n)) (fault_none (place_of p n h))
   where
     fault_none : (x : Place) → NoBeat (fault_op n x)
     fault_none Absent = tt
     fault_none x = tt
-event_beats p h (event.FailClient c) i = none_beats (next_op p h (event.FailClient c)) (failed_none (client_op p c h) (client_none p h c))
+event_beats p h (event.FailClient c) i = none_beats p (next_op p h (event.FailClient c)) (failed_none (client_op p c h) (client_none p h c))
 event_beats p h (event.Clock m) i = tt
 
--- the beats of these entries' events are of clients
-abbrev EventsBeat : List Entry → Type 0
-EventsBeat [] = Unit {0}
-EventsBeat (e ∷ h) = IsBeatOfAClient e.event × EventsBeat h
+beat_named : (p : Plan) (v : Event) → names_client p v ≡ true → IsBeatOfAClient p v
+beat_named p (event.Beat c) i = i
+beat_named p v i = tt
 
-entries_beat : (p : Plan) (h : List Entry) → IsHistory p h → EventsBeat h → BeatsClients h
-entries_beat p [] l i = tt
-entries_beat p (e ∷ h) l i = (entries_beat p h l.0 i.1, subst BeatsAClient (sym (ap (λ x. x.op) l.1)) (event_beats p h e.event i.0))
-
--- Schedules. ------------------------------------------------------------------------------------------
-
-abbrev AllBeat : List Event → Type 0
-AllBeat [] = Unit {0}
-AllBeat (v ∷ vs) = IsBeatOfAClient v × AllBeat vs
-
-plays_beat : (vs : List Event) (h k : List Entry) → AllBeat vs → EventsBeat h → Plays vs h k → EventsBeat k
-plays_beat [] h k a i e = subst EventsBeat e i
-plays_beat (v ∷ vs) h k a i q = plays_beat vs (q.0 ∷ h) k a.1 (subst IsBeatOfAClient (sym q.1) a.0, i) q.2
-
-crashes_beat : (ns : List ℕ) (m : ℕ) → AllBeat (crashes ns ++ event.Clock m ∷ [])
-crashes_beat [] m = (tt, tt)
-crashes_beat (n ∷ ns) m = (tt, crashes_beat ns m)
-
--- an event that isn't a beat
-abbrev IsSteady : Option Event → Type 0
-IsSteady None = Unit {0}
-IsSteady (Some v) = IsBeatOfAClient v
-
-either_steady : (o q : Option Event) → IsSteady o → IsSteady q → IsSteady (or_else o q)
-either_steady None q i j = j
-either_steady (Some v) q i j = i
-
-step_steady : (ns : List ℕ) → IsSteady (step_of_first ns)
-step_steady [] = tt
-step_steady (n ∷ ns) = tt
-
-lead_steady : (o : Option ℕ) → IsSteady (lead_where o)
-lead_steady None = tt
-lead_steady (Some t) = tt
-
-tell_steady : (o : Option ℕ) → IsSteady (tell_where o)
-tell_steady None = tt
-tell_steady (Some w) = tt
-
-deliver_steady : (c : ℕ) (o : Option ℕ) → IsSteady (deliver_where c o)
-deliver_steady c None = tt
-deliver_steady c (Some k) = tt
-
-deliver_first_steady : (xs : List (List Ask)) (c : ℕ) (h : List Entry) → IsSteady (deliver_first xs c h)
-deliver_first_steady [] c h = tt
-deliver_first_steady (x ∷ xs) c h = either_steady (deliver_where c (session_head c h)) _ (deliver_steady c (session_head c h)) (deliver_first_steady xs _ h)
-
-client_first_steady : (p : Plan) (xs : List (List Ask)) (c : ℕ) (h : List Entry) → IsSteady (client_first p xs c h)
-client_first_steady p [] c h = tt
-client_first_steady p (x ∷ xs) c h = cond_both (is_idle (client_op p c h)) (client_first p xs _ h) (Some (event.Client c)) IsSteady (λ _. client_first_steady p xs _ h) (λ _. tt)
-
-drain_steady : (p : Plan) (h : List Entry) → IsSteady (next_of_drain p h)
-drain_steady p h =
-    either_steady (step_of_first (in_flight p h)) _ (step_steady (in_flight p h))
-    (either_steady (tell_where (watch_head h)) _ (tell_steady (watch_head h))
-    (either_steady (lead_where (leader_head h)) _ (lead_steady (leader_head h))
-    (either_steady (deliver_first p.asks 1 h) (client_first p p.asks 1 h) (deliver_first_steady p.asks 1 h) (client_first_steady p p.asks 1 h))))
-
-empties_beat : (p : Plan) (h k : List Entry) → EventsBeat h → Empties p h k → EventsBeat k
-empties_beat p h k i (Emptied g e) = i
-empties_beat p h k i (Goes g m x e q) = empties_beat p (x ∷ g) m (subst IsSteady e (drain_steady p g), i) q
-
-drains_beat : (p : Plan) (h k : List Entry) → EventsBeat h → Drains p h k → EventsBeat k
-drains_beat p h k i d = empties_beat p d.begun k (plays_beat (drain_begin p h) h d.begun (crashes_beat (in_flight p h) _) i d.begins) d.empties
-
-turns_beat : (p : Plan) (ts : List Turn) (h k : List Entry) → TurnsBeatClients ts → EventsBeat h → TakesTurns p ts h k → EventsBeat k
-turns_beat p [] h k a i d = drains_beat p h k i d
-turns_beat p (turn.One v ∷ ts) h k a i d = turns_beat p ts d.0 k a.1 (plays_beat (v ∷ []) h d.0 (a.0, tt) i d.1) d.2
-turns_beat p (turn.Drain ∷ ts) h k a i d = turns_beat p ts d.0 k a (drains_beat p h d.0 i d.1) d.2
-
-pub scheduled_beats_clients : ScheduledBeatsClients
-scheduled_beats_clients d h a l s = entries_beat (plan_of d) h l (turns_beat (plan_of d) d.turns [] h a tt s)
+pub heartbeats_are_of_clients : HeartbeatsAreOfClients
+heartbeats_are_of_clients p [] l = tt
+heartbeats_are_of_clients p (e ∷ h) l = (heartbeats_are_of_clients p h l.0, subst (BeatsAClient p) (sym (ap (λ x. x.op) l.1.0)) (event_beats p h e.event (beat_named p e.event l.1.1)))

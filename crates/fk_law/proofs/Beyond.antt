@@ -16,7 +16,6 @@ use Rattle.fk_spec.specs.Next.{IsHistory}
 use Rattle.fk_law.specs.Due.{IsDue, IsPushOf}
 use Rattle.fk_law.specs.Losing.{IsLive}
 use Rattle.fk_law.specs.Numbering.{last_in, IsNewest, AllNewest, LivePushIsNewest, CommitsRise}
-use Rattle.fk_law.specs.Sessions.{BeatsClients}
 use Rattle.fk_law.proofs.Due.{due}
 use Rattle.fk_law.proofs.Numbers.{less_or_not}
 use Rattle.fk_law.proofs.Pushing.{push_bound}
@@ -60,18 +59,18 @@ edit_step p q e h (op.CommitOk a t) b l s d i =
     (edit_commit p q a t e h l s b c i (has_path q (edited_paths (filled_after (committed_of p h) t c.pushed))) refl)
 edit_step p q e h o b l s d i = λ v. edit_stays p q (last_edit p q h) e h l (i v)
 
-last_is_edit : (p : Plan) (q : PathNames) (h : List Entry) → IsHistory p h → BeatsClients h → 1 ≤ last_edit p q h → IsEditOf q (last_edit p q h) h
-last_is_edit p q [] l b v = absurd (omega (arith, v))
-last_is_edit p q (e ∷ h) l b v = edit_step p q e h e.op refl l (seen p h l.0 b.0) (due p e h l) (last_is_edit p q h l.0 b.0) v
+last_is_edit : (p : Plan) (q : PathNames) (h : List Entry) → IsHistory p h → 1 ≤ last_edit p q h → IsEditOf q (last_edit p q h) h
+last_is_edit p q [] l v = absurd (omega (arith, v))
+last_is_edit p q (e ∷ h) l v = edit_step p q e h e.op refl l (seen p h l.0) (due p e h l) (last_is_edit p q h l.0) v
 
 -- Live pushes. ----------------------------------------------------------------------------------------
 
 live_low : (p : Plan) (t : ℕ) (h : List Entry) → IsHistory p h → (x : IsLive t h) → 1 ≤ t
 live_low p t h l x = (push_bound p t h x.is_of.push l x.is_of.pushed).1
 
-pub live_beyond_edits : (p : Plan) (t : ℕ) (h : List Entry) (q : PathNames) → IsHistory p h → BeatsClients h → (x : IsLive t h) → has_path q (granted x.function h) ≡ true → last_edit p q h < t
-live_beyond_edits p t h q l b x g = less_or_not (last_edit p q h) t (λ v.
-    let y = last_is_edit p q h l b (let w = live_low p t h l x in omega (arith, v, w)) in
+pub live_beyond_edits : (p : Plan) (t : ℕ) (h : List Entry) (q : PathNames) → IsHistory p h → (x : IsLive t h) → has_path q (granted x.function h) ≡ true → last_edit p q h < t
+live_beyond_edits p t h q l x g = less_or_not (last_edit p q h) t (λ v.
+    let y = last_is_edit p q h l (let w = live_low p t h l x in omega (arith, v, w)) in
     let z = newest_on_a_path p t x.function (last_edit p q h) y.function q h l (is_push_of_it t x.function x.session x.k h x.is_of) (is_push_of_it (last_edit p q h) y.function y.session y.k h y.is_of) x.uncommitted y.committed y.locked g (x.own q g) in
     omega (arith, v, z))
 
@@ -82,9 +81,9 @@ live_beyond_session p t h l x = less_or_not (last_of_session x.session h) t (λ 
     omega (arith, v, z))
 
 pub live_push_is_newest : LivePushIsNewest
-live_push_is_newest p t n c k h l b x w =
+live_push_is_newest p t n c k h l x w =
     let g = its_push_is_one t x.function x.session x.k n c k h x.is_of w in
-    (subst (λ z. last_of_session z h < t) g.1 (live_beyond_session p t h l x), λ q i. live_beyond_edits p t h q l b x (subst (λ m. has_path q (granted m h) ≡ true) (sym g.0) i))
+    (subst (λ z. last_of_session z h < t) g.1 (live_beyond_session p t h l x), λ q i. live_beyond_edits p t h q l x (subst (λ m. has_path q (granted m h) ≡ true) (sym g.0) i))
 
 -- Commits. --------------------------------------------------------------------------------------------
 
@@ -101,16 +100,16 @@ last_in_is p c [] l = refl
 last_in_is p c (e ∷ h) l = last_in_step p c h e.op l.0 (due p e h l) (last_in_is p c h l.0)
 
 -- what commits is beyond those before it
-pub commit_is_newest : (p : Plan) (t : ℕ) (h : List Entry) → IsHistory p h → BeatsClients h → (c : IsCommit p t h) → IsNewest (committed_of p h) (filled_after (committed_of p h) t c.pushed)
-commit_is_newest p t h l b c = record {
-  paths = λ q i. live_beyond_edits p t h q l b c.live (((seen p h l b).pushes t c.live c.pushed c.is).1 q i);
+pub commit_is_newest : (p : Plan) (t : ℕ) (h : List Entry) → IsHistory p h → (c : IsCommit p t h) → IsNewest (committed_of p h) (filled_after (committed_of p h) t c.pushed)
+commit_is_newest p t h l c = record {
+  paths = λ q i. live_beyond_edits p t h q l c.live (((seen p h l).pushes t c.live c.pushed c.is).1 q i);
   session = subst (λ z. z < t) (sym (ap (λ z. last_in z (committed_of p h)) c.session ∙ last_in_is p c.live.session h l)) (live_beyond_session p t h l c.live);
 }
 
-rise_step : (p : Plan) (h : List Entry) (o : Op) → IsHistory p h → BeatsClients h → IsDue p h o → AllNewest (committed_of p h) → AllNewest (committed_in p h o (committed_of p h))
-rise_step p h (op.CommitOk a t) l b d i = let c = commit_is p a t h l d in subst (λ z. AllNewest (with_filled (committed_of p h) t z)) (sym c.is) (commit_is_newest p t h l b c, i)
-rise_step p h o l b d i = i
+rise_step : (p : Plan) (h : List Entry) (o : Op) → IsHistory p h → IsDue p h o → AllNewest (committed_of p h) → AllNewest (committed_in p h o (committed_of p h))
+rise_step p h (op.CommitOk a t) l d i = let c = commit_is p a t h l d in subst (λ z. AllNewest (with_filled (committed_of p h) t z)) (sym c.is) (commit_is_newest p t h l c, i)
+rise_step p h o l d i = i
 
 pub commits_rise : CommitsRise
-commits_rise p [] l b = tt
-commits_rise p (e ∷ h) l b = rise_step p h e.op l.0 b.0 (due p e h l) (commits_rise p h l.0 b.0)
+commits_rise p [] l = tt
+commits_rise p (e ∷ h) l = rise_step p h e.op l.0 (due p e h l) (commits_rise p h l.0)

@@ -23,14 +23,13 @@ use Rattle.fk_spec.specs.Next.{IsHistory}
 use Rattle.fk_law.specs.Due.{IsDue, IsPushOf}
 use Rattle.fk_law.specs.Losing.{IsLive}
 use Rattle.fk_law.specs.Numbering.{LaterNumbersLeave, CommitFitsAtItsNumber, CloseListsAll, ClosedSessionOwnsNothing}
-use Rattle.fk_law.specs.Sessions.{BeatsClients}
 use Rattle.fk_law.proofs.Due.{due}
 use Rattle.fk_law.proofs.Pushing.{push_bound}
 use Rattle.fk_law.proofs.Settled.{task_at_most_next}
 use Rattle.fk_law.proofs.Closing.{new_push, closed_push}
 use Rattle.fk_law.proofs.Rising.{its_push_before}
 use Rattle.fk_law.proofs.Sending.{pushed_never_changes}
-use Rattle.fk_law.proofs.Clients.{follows_a_client}
+use Rattle.fk_law.proofs.Clients.{follows_from_1}
 use Rattle.fk_law.proofs.Filling.{owned_has, not_none}
 use Rattle.fk_law.proofs.Leaving.{IsCommit, commit_is, other_session}
 use Rattle.fk_law.proofs.Fitting.{seen, was_live, filled_on, session_of_pushed}
@@ -38,7 +37,7 @@ use Rattle.fk_law.proofs.Beyond.{last_in_is, commit_is_newest, commits_rise}
 use Rattle.fk_law.proofs.Numbering.{node_counts, closed_apart, closed_counts, AllAtMost, more_at_most, all_counted, AllFitBefore, one_fits_more, fits_before}
 
 pub later_numbers_leave : LaterNumbersLeave
-later_numbers_leave p n h l b = (λ q v. node_counts n q (committed_of p h) (commits_rise p h l b) v, λ c v. closed_counts n c (committed_of p h) (commits_rise p h l b) (subst (λ z. z ≤ n) (sym (last_in_is p c h l)) v))
+later_numbers_leave p n h l = (λ q v. node_counts n q (committed_of p h) (commits_rise p h l) v, λ c v. closed_counts n c (committed_of p h) (commits_rise p h l) (subst (λ z. z ≤ n) (sym (last_in_is p c h l)) v))
 
 -- Numbers of commits. ---------------------------------------------------------------------------------
 
@@ -90,15 +89,15 @@ lists_on p c k n h o r gone l d z m s i = i
 abbrev ListsFrom : Plan → ℕ → List Entry → Pushed → Type 0
 ListsFrom p n h y = ListsOwned (view_after (up_to n (committed_of p h))) y.session y.request (gone_after y.session (committed_of p h) y.request)
 
-session_not_none : (p : Plan) (t : ℕ) (h : List Entry) (y : Pushed) → IsHistory p h → BeatsClients h → (x : IsLive t h) → pushed_of p t h ≡ Some y → y.session ≢ 0
-session_not_none p t h y l b x q e = not_none x.session (follows_a_client p x.function x.session x.k h l b x.is_of.task) (sym (session_of_pushed p t x.function x.session x.k h y l x.is_of q) ∙ e)
+session_not_none : (p : Plan) (t : ℕ) (h : List Entry) (y : Pushed) → IsHistory p h → (x : IsLive t h) → pushed_of p t h ≡ Some y → y.session ≢ 0
+session_not_none p t h y l x q e = not_none x.session (follows_from_1 p x.function x.session x.k h l x.is_of.task) (sym (session_of_pushed p t x.function x.session x.k h y l x.is_of q) ∙ e)
 
-close_old : (p : Plan) (t n : ℕ) (e : Entry) (h : List Entry) (y : Pushed) → IsHistory p (e ∷ h) → BeatsClients h → (x : IsLive t (e ∷ h)) → pushed_of p t h ≡ Some y → IsPushOf t x.function x.session x.k h → ListsFrom p n h y → ListsFrom p n (e ∷ h) y
-close_old p t n e h y l b x q w i =
+close_old : (p : Plan) (t n : ℕ) (e : Entry) (h : List Entry) (y : Pushed) → IsHistory p (e ∷ h) → (x : IsLive t (e ∷ h)) → pushed_of p t h ≡ Some y → IsPushOf t x.function x.session x.k h → ListsFrom p n h y → ListsFrom p n (e ∷ h) y
+close_old p t n e h y l x q w i =
     let s = session_of_pushed p t x.function x.session x.k h y l.0 w q in
     let m = task_at_most_next p x.function x.session x.k h l.0 w.task in
-    subst (ListsOwned (view_after (up_to n (committed_of p (e ∷ h)))) y.session y.request) (sym (ap (λ a. a.gone) (filled_on p t e h y l (seen p h l.0 b) x q w)))
-    (lists_on p y.session x.k n h e.op y.request (gone_after y.session (committed_of p h) y.request) l.0 (due p e h l) (session_not_none p t h y l.0 b (was_live p t e h l x w) q) (subst (λ c. x.k ≤ settled_of c h + 1) (sym s) m) (subst (λ c. count_settling c (settled_in h e.op) (settled_of c h) + 1 ≡ x.k) (sym s) x.next) i)
+    subst (ListsOwned (view_after (up_to n (committed_of p (e ∷ h)))) y.session y.request) (sym (ap (λ a. a.gone) (filled_on p t e h y l (seen p h l.0) x q w)))
+    (lists_on p y.session x.k n h e.op y.request (gone_after y.session (committed_of p h) y.request) l.0 (due p e h l) (session_not_none p t h y l.0 (was_live p t e h l x w) q) (subst (λ c. x.k ≤ settled_of c h + 1) (sym s) m) (subst (λ c. count_settling c (settled_in h e.op) (settled_of c h) + 1 ≡ x.k) (sym s) x.next) i)
 
 close_new : (p : Plan) (t n m : ℕ) (e : Entry) (h : List Entry) (y : Pushed) → IsHistory p (e ∷ h) → e.op ≡ op.Push m t → y.session ≢ 0 → t ≤ n + 1 → ListsFrom p n (e ∷ h) y
 close_new p t n m e h y l g z v =
@@ -107,43 +106,43 @@ close_new p t n m e h y l g z v =
     let i = all_counted n (committed_of p h) (more_at_most (pushes_of h) n (committed_of p h) (omega (arith, v, w)) (commits_were_pushed p h l.0)) in
     rw g (subst (λ done. ListsOwned (view_after done) y.session y.request (gone_after y.session (committed_of p h) y.request)) (sym i) (lists_new y.session (committed_of p h) y.request z))
 
-close_step : (p : Plan) (t n : ℕ) (e : Entry) (h : List Entry) (y : Pushed) (o : Option Push) → push_here t (pushed_in (clock_of h) e.op) ≡ o → IsHistory p (e ∷ h) → BeatsClients h → ((x : IsLive t h) → pushed_of p t h ≡ Some y → ListsFrom p n h y) → y.session ≢ 0 → (x : IsLive t (e ∷ h)) → pushed_of p t (e ∷ h) ≡ Some y → t ≤ n + 1 → ListsFrom p n (e ∷ h) y
-close_step p t n e h y None g l b i z x q v =
+close_step : (p : Plan) (t n : ℕ) (e : Entry) (h : List Entry) (y : Pushed) (o : Option Push) → push_here t (pushed_in (clock_of h) e.op) ≡ o → IsHistory p (e ∷ h) → ((x : IsLive t h) → pushed_of p t h ≡ Some y → ListsFrom p n h y) → y.session ≢ 0 → (x : IsLive t (e ∷ h)) → pushed_of p t (e ∷ h) ≡ Some y → t ≤ n + 1 → ListsFrom p n (e ∷ h) y
+close_step p t n e h y None g l i z x q v =
     let u = push_bound p t h x.is_of.push l.0 (subst (λ o. or_else o (push_of t h) ≡ Some x.is_of.push) g x.is_of.pushed) in
     let w = its_push_before p t x.function x.session x.k e h l u.1 u.2 x.is_of in
     let r = sym (pushed_never_changes p t x.function x.session x.k h (e ∷ []) l w) ∙ q in
-    close_old p t n e h y l b x r w (i (was_live p t e h l x w) r)
-close_step p t n e h y (Some u) g l b i z x q v = close_new p t n u.function e h y l (new_push t h e.op u g) z v
+    close_old p t n e h y l x r w (i (was_live p t e h l x w) r)
+close_step p t n e h y (Some u) g l i z x q v = close_new p t n u.function e h y l (new_push t h e.op u g) z v
 
 pub close_lists_all : CloseListsAll
-close_lists_all p t n [] y l b x q v = absurd (unpushed t x.is_of.push x.is_of.pushed)
+close_lists_all p t n [] y l x q v = absurd (unpushed t x.is_of.push x.is_of.pushed)
   where
     unpushed : (t : ℕ) (z : Push) → push_of t [] ≡ Some z → ⊥
     unpushed t z e = grind arith
-close_lists_all p t n (e ∷ h) y l b x q v = close_step p t n e h y (push_here t (pushed_in (clock_of h) e.op)) refl l b.0 (λ w r. close_lists_all p t n h y l.0 b.0 w r v) (session_not_none p t (e ∷ h) y l b x q) x q v
+close_lists_all p t n (e ∷ h) y l x q v = close_step p t n e h y (push_here t (pushed_in (clock_of h) e.op)) refl l (λ w r. close_lists_all p t n h y l.0 w r v) (session_not_none p t (e ∷ h) y l x q) x q v
 
 -- Each commit. ----------------------------------------------------------------------------------------
 
-before_step : (p : Plan) (h : List Entry) (o : Op) → IsHistory p h → BeatsClients h → IsDue p h o → AllFitBefore (committed_of p h) (committed_of p h) → AllFitBefore (committed_in p h o (committed_of p h)) (committed_in p h o (committed_of p h))
-before_step p h (op.CommitOk a t) l b d i =
+before_step : (p : Plan) (h : List Entry) (o : Op) → IsHistory p h → IsDue p h o → AllFitBefore (committed_of p h) (committed_of p h) → AllFitBefore (committed_in p h o (committed_of p h)) (committed_in p h o (committed_of p h))
+before_step p h (op.CommitOk a t) l d i =
     let c = commit_is p a t h l d in
     subst (λ z. AllFitBefore (with_filled (committed_of p h) t z) (with_filled (committed_of p h) t z)) (sym c.is)
-    (one_fits_more (committed_of p h) (filled_after (committed_of p h) t c.pushed) (commits_rise p h l b) (commit_is_newest p t h l b c) ((seen p h l b).pushes t c.live c.pushed c.is).0
-    (λ n e. close_lists_all p t n h c.pushed l b c.live c.is (omega (arith, e))) i)
-before_step p h o l b d i = i
+    (one_fits_more (committed_of p h) (filled_after (committed_of p h) t c.pushed) (commits_rise p h l) (commit_is_newest p t h l c) ((seen p h l).pushes t c.live c.pushed c.is).0
+    (λ n e. close_lists_all p t n h c.pushed l c.live c.is (omega (arith, e))) i)
+before_step p h o l d i = i
 
-all_fit_before : (p : Plan) (h : List Entry) → IsHistory p h → BeatsClients h → AllFitBefore (committed_of p h) (committed_of p h)
-all_fit_before p [] l b = tt
-all_fit_before p (e ∷ h) l b = before_step p h e.op l.0 b.0 (due p e h l) (all_fit_before p h l.0 b.0)
+all_fit_before : (p : Plan) (h : List Entry) → IsHistory p h → AllFitBefore (committed_of p h) (committed_of p h)
+all_fit_before p [] l = tt
+all_fit_before p (e ∷ h) l = before_step p h e.op l.0 (due p e h l) (all_fit_before p h l.0)
 
 pub commit_fits_at_its_number : CommitFitsAtItsNumber
-commit_fits_at_its_number p n t h a l b q e = let f = fits_before (committed_of p h) (committed_of p h) t a (all_fit_before p h l b) q in f.1 n (e ∙ sym f.0)
+commit_fits_at_its_number p n t h a l q e = let f = fits_before (committed_of p h) (committed_of p h) t a (all_fit_before p h l) q in f.1 n (e ∙ sym f.0)
 
 -- Closed sessions. ------------------------------------------------------------------------------------
 
-owns_step : (p : Plan) (c : ℕ) (h : List Entry) (q : PathNames) (o : Op) → IsHistory p h → BeatsClients h → IsDue p h o → c ≢ 0 → ((stored_view p h).closed c ≡ true → is_owned c ((stored_view p h).node q) ≡ false)
+owns_step : (p : Plan) (c : ℕ) (h : List Entry) (q : PathNames) (o : Op) → IsHistory p h → IsDue p h o → c ≢ 0 → ((stored_view p h).closed c ≡ true → is_owned c ((stored_view p h).node q) ≡ false)
     → (view_after (committed_in p h o (committed_of p h))).closed c ≡ true → is_owned c ((view_after (committed_in p h o (committed_of p h))).node q) ≡ false
-owns_step p c h q (op.CommitOk a t) l b d z i = subst (λ v. (view_after (with_filled (committed_of p h) t v)).closed c ≡ true → is_owned c ((view_after (with_filled (committed_of p h) t v)).node q) ≡ false) (sym x.is) (by_session (nat_eq x.pushed.session c) refl)
+owns_step p c h q (op.CommitOk a t) l d z i = subst (λ v. (view_after (with_filled (committed_of p h) t v)).closed c ≡ true → is_owned c ((view_after (with_filled (committed_of p h) t v)).node q) ≡ false) (sym x.is) (by_session (nat_eq x.pushed.session c) refl)
   where
     x : IsCommit p t h
     x = commit_is p a t h l d
@@ -157,7 +156,7 @@ owns_step p c h q (op.CommitOk a t) l b d z i = subst (λ v. (view_after (with_f
 
     -- its own close, as the session was open
     own : x.pushed.session ≡ c → (b : Bool) → closes A.request ≡ b → (after (stored_view p h) A).closed c ≡ true → is_owned c ((after (stored_view p h) A).node q) ≡ false
-    own s true e v = subst (λ y. is_owned y ((after (stored_view p h) A).node q) ≡ false) s (close_leaves_none (stored_view p h) A q ((seen p h l b).pushes t x.live x.pushed x.is).0 e)
+    own s true e v = subst (λ y. is_owned y ((after (stored_view p h) A).node q) ≡ false) s (close_leaves_none (stored_view p h) A q ((seen p h l).pushes t x.live x.pushed x.is).0 e)
     own s false e v = absurd (false≢true (sym (closed_push p t x.live.function x.live.session x.live.k h l x.live.is_of x.live.next) ∙ (ap (stored_view p h).closed (sym x.session ∙ s) ∙ (rw e refl ∙ v))))
 
     by_session : (b : Bool) → nat_eq x.pushed.session c ≡ b → (after (stored_view p h) A).closed c ≡ true → is_owned c ((after (stored_view p h) A).node q) ≡ false
@@ -166,8 +165,8 @@ owns_step p c h q (op.CommitOk a t) l b d z i = subst (λ v. (view_after (with_f
       where
         other : nat_eq x.pushed.session c ≡ false → c ≡ x.pushed.session → ⊥
         other e s = grind (arith, nat_tests)
-owns_step p c h q o l b d z i = i
+owns_step p c h q o l d z i = i
 
 pub closed_session_owns_nothing : ClosedSessionOwnsNothing
-closed_session_owns_nothing p c [] q l b z v = absurd (false≢true v)
-closed_session_owns_nothing p c (e ∷ h) q l b z v = owns_step p c h q e.op l.0 b.0 (due p e h l) (not_none c z) (λ w. closed_session_owns_nothing p c h q l.0 b.0 z w) v
+closed_session_owns_nothing p c [] q l z v = absurd (false≢true v)
+closed_session_owns_nothing p c (e ∷ h) q l z v = owns_step p c h q e.op l.0 (due p e h l) (not_none c z) (λ w. closed_session_owns_nothing p c h q l.0 z w) v

@@ -16,12 +16,12 @@ use Rattle.fk_spec.specs.Plan.{Plan, item_after}
 use Rattle.fk_spec.specs.Start.{seen_with, seen_from, request_of, sends_of}
 use Rattle.fk_spec.specs.Settling.{settled_in, settled_of, last_of_session}
 use Rattle.fk_spec.specs.Stored.{committed_of, owned_after}
-use Rattle.fk_spec.specs.Follower.{Follower, Granted, begin, node_in, view_of, refusal_number, next_stage, next_with, to_lock, to_begin, with_granted}
+use Rattle.fk_spec.specs.Follower.{Follower, Granted, begin, node_in, view_of, refusal_number, next_stage, next_with, to_lock, to_begin, with_granted, paths_of}
 use Rattle.fk_spec.specs.Follower as follower
 use Rattle.fk_spec.specs.Function.{Following, place_of, actor}
 use Rattle.fk_spec.specs.Next.{IsHistory}
 use Rattle.fk_law.specs.Due.{IsDue}
-use Rattle.fk_law.specs.Seeing.{paths_of, next_lock, DecidesSo, FollowerDecidesFromItsViews, Locks, GrantsAreTheFirstLockPaths}
+use Rattle.fk_law.specs.Seeing.{next_lock, DecidesSo, FollowerDecidesFromItsViews, Locks, GrantsAreTheFirstLockPaths}
 use Rattle.fk_law.proofs.Due.{due}
 use Rattle.fk_law.proofs.Moving.{ahead}
 use Rattle.fk_law.proofs.Standing.{OnStanding, standing_step}

@@ -233,4 +233,4 @@ event_due p h (event.FailClient c) = failed_due p h (client_op p c h) (client_du
 event_due p h (event.Clock moment) = grind (arith, nat_tests)
 
 pub due : EveryEntryIsDue
-due p e h l = subst (IsDue p h) (sym (ap (λ x. x.op) l.1)) (event_due p h e.event)
+due p e h l = subst (IsDue p h) (sym (ap (λ x. x.op) l.1.0)) (event_due p h e.event)

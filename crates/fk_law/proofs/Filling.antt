@@ -32,7 +32,7 @@ use Rattle.fk_spec.specs.Stored.{is_owned_by, owned_among, all_edited, owned_aft
 
 -- The nodes of a session. -----------------------------------------------------------------------------
 
-owner_same : (c : ℕ) (o : Option Node) → is_owned_by c o ≡ is_owned c o
+pub owner_same : (c : ℕ) (o : Option Node) → is_owned_by c o ≡ is_owned c o
 owner_same c None = refl
 owner_same c (Some n) = refl
 
@@ -52,7 +52,7 @@ among_step c v p q ps qs s i = by_owner (is_owned_by c (v.node p)) refl (same_pa
     by_owner false e true f = rw (same f, e) (i ∙ ap (λ z. z && has_path q ps) (same f ∙ e))
     by_owner false e false f = i
 
-among_has : (c : ℕ) (v : View) (ps : List PathNames) (q : PathNames) → has_path q (owned_among c v ps) ≡ (is_owned_by c (v.node q) && has_path q ps)
+pub among_has : (c : ℕ) (v : View) (ps : List PathNames) (q : PathNames) → has_path q (owned_among c v ps) ≡ (is_owned_by c (v.node q) && has_path q ps)
 among_has c v [] q = none (is_owned_by c (v.node q))
   where
     none : (b : Bool) → false ≡ (b && false)
@@ -64,7 +64,7 @@ among_below : (c : ℕ) (v : View) (ps : List PathNames) (q : PathNames) → is_
 among_below c v [] q b = refl
 among_below c v (p ∷ ps) q b = by_test (is_owned_by c (v.node p)) (λ a. is_below path_cmp q (cond a (p ∷ owned_among c v ps) (owned_among c v ps)) ≡ true) (λ _. rw (and_left (is_lt (path_cmp q p)) (is_below path_cmp q ps) b) (among_below c v ps q (and_right (is_lt (path_cmp q p)) (is_below path_cmp q ps) b))) (λ _. among_below c v ps q (and_right (is_lt (path_cmp q p)) (is_below path_cmp q ps) b))
 
-among_rises : (c : ℕ) (v : View) (ps : List PathNames) → rises path_cmp ps ≡ true → rises path_cmp (owned_among c v ps) ≡ true
+pub among_rises : (c : ℕ) (v : View) (ps : List PathNames) → rises path_cmp ps ≡ true → rises path_cmp (owned_among c v ps) ≡ true
 among_rises c v [] r = refl
 among_rises c v (p ∷ ps) r = by_test (is_owned_by c (v.node p)) (λ a. rises path_cmp (cond a (p ∷ owned_among c v ps) (owned_among c v ps)) ≡ true) (λ _. rw (among_below c v ps p (and_left (is_below path_cmp p ps) (rises path_cmp ps) r)) (among_rises c v ps (and_right (is_below path_cmp p ps) (rises path_cmp ps) r))) (λ _. among_rises c v ps (and_right (is_below path_cmp p ps) (rises path_cmp ps) r))
 
@@ -80,7 +80,7 @@ owned_has c done q z = among_has c (view_after done) (in_path_order (all_edited 
     by_owner true e = ordered_has (all_edited done) q ∙ all_has done q ∙ owned_was_edited done c q z e
     by_owner false e = refl
 
-owned_rise : (c : ℕ) (done : List Applied) → rises path_cmp (owned_after c done) ≡ true
+pub owned_rise : (c : ℕ) (done : List Applied) → rises path_cmp (owned_after c done) ≡ true
 owned_rise c done = among_rises c (view_after done) (in_path_order (all_edited done)) (ordered_rises (all_edited done))
 
 gone_is : (c : ℕ) (done : List Applied) (r : Request) → c ≢ 0 → GoneIs (view_after done) c r (gone_after c done r)

@@ -23,15 +23,14 @@ use Rattle.fk_spec.specs.Start.{Follows, Push, Pushed, clock_of, task_of, push_o
 use Rattle.fk_spec.specs.Locks.{is_push_of, last_grant, grant_in, granted}
 use Rattle.fk_spec.specs.Settling.{settled_in, settled_of, count_settling, is_committed, commits}
 use Rattle.fk_spec.specs.Stored.{committed_of, committed_in, with_filled, filled_after, stored_view}
-use Rattle.fk_spec.specs.Follower.{Follower, Granted, view_of, node_in}
+use Rattle.fk_spec.specs.Follower.{Follower, Granted, view_of, node_in, paths_of}
 use Rattle.fk_spec.specs.Follower as follower
 use Rattle.fk_spec.specs.Function.{Following, place_of}
 use Rattle.fk_spec.specs.Next.{IsHistory}
 use Rattle.fk_law.specs.Due.{IsDue, IsPushOf}
 use Rattle.fk_law.specs.Losing.{IsOwn, IsLive}
 use Rattle.fk_law.specs.Progress.{Works, progress}
-use Rattle.fk_law.specs.Seeing.{paths_of, AreCurrent, Locks}
-use Rattle.fk_law.specs.Sessions.{BeatsClients}
+use Rattle.fk_law.specs.Seeing.{AreCurrent, Locks}
 use Rattle.fk_law.proofs.Due.{due}
 use Rattle.fk_law.proofs.Starting.{follower_task}
 use Rattle.fk_law.proofs.Pushing.{push_bound}
@@ -41,7 +40,7 @@ use Rattle.fk_law.proofs.Closing.{settled_so, new_push, follower_same, at_work_i
 use Rattle.fk_law.proofs.Rising.{its_push_before, own_same}
 use Rattle.fk_law.proofs.Losing.{granted_stays, no_more_locks}
 use Rattle.fk_law.proofs.Sending.{push_asks_for_its_request, pushed_never_changes, request_stays}
-use Rattle.fk_law.proofs.Clients.{follows_a_client}
+use Rattle.fk_law.proofs.Clients.{follows_from_1}
 use Rattle.fk_law.proofs.Deciding.{StandsSo, stands_at, left_over, none_left}
 use Rattle.fk_law.proofs.Recording.{records_are_of_its_grants}
 use Rattle.fk_law.proofs.Filling.{locked_fits, refilled}
@@ -147,7 +146,7 @@ filled_on p t e h y l s x q w = (old_fits p t e h y l s x q w).2
 
 -- A new push. -----------------------------------------------------------------------------------------
 
--- where each path is its own, what it has seen is what the commits left
+-- where each path is its own, what it has seen is what the left
 seen_agrees_step : (p : Plan) (n : ℕ) (h : List Entry) (g : Granted) (gs : List Granted) (q : PathNames) → (same_path g.path q ≡ true → g.path ≡ q) → g.node ≡ (stored_view p h).node g.path → (has_path q (paths_of gs) ≡ true → node_in gs q ≡ (stored_view p h).node q) → (same_path q g.path || has_path q (paths_of gs)) ≡ true → same_path q g.path ≡ same_path g.path q → node_in (g ∷ gs) q ≡ (stored_view p h).node q
 seen_agrees_step p n h g gs q s c i b f = by_path (same_path g.path q) refl
   where
@@ -159,23 +158,23 @@ seen_agrees : (p : Plan) (n : ℕ) (h : List Entry) (gs : List Granted) → AreC
 seen_agrees p n h [] i o q b = absurd (false≢true b)
 seen_agrees p n h (g ∷ gs) i o q b = seen_agrees_step p n h g gs q (same_path_is g.path q) (i.0 (o g.path (or_left _ _ (same_path_self g.path)))).node (seen_agrees p n h gs i.1 (λ x v. o x (or_right (same_path x g.path) _ v)) q) b (flipped q g.path)
 
-lists_owned : (p : Plan) (h : List Entry) (f : Follower) (r : Request) → Lists p h f → request_of p f.session f.k h ≡ Some r → Locks f.stage → settled_of f.session h + 1 ≡ f.k → ListsOwned (stored_view p h) f.session r f.owned
+pub lists_owned : (p : Plan) (h : List Entry) (f : Follower) (r : Request) → Lists p h f → request_of p f.session f.k h ≡ Some r → Locks f.stage → settled_of f.session h + 1 ≡ f.k → ListsOwned (stored_view p h) f.session r f.owned
 lists_owned p h f (request.Create path bytes seq eph) i q w s = tt
 lists_owned p h f (request.Set path bytes version) i q w s = tt
 lists_owned p h f (request.Delete path version) i q w s = tt
 lists_owned p h f (request.Close evict) i q w s = i (request.Close evict) q refl w s
 lists_owned p h f (request.Multi xs) i q w s = tt
 
--- What a follower at work has seen of the paths that it holds.
+-- What a follower at work has seen of the paths it holds.
 pub holder_agrees : (p : Plan) (n : ℕ) (h : List Entry) (f : Follower) → IsHistory p h → IsSeen p h → place_of p n h ≡ Following f → progress f.stage ≡ Works → ((q : PathNames) → has_path q (granted n h) ≡ true → IsOwn n (last_grant q h)) → (q : PathNames) → has_path q (granted n h) ≡ true → node_in f.granted q ≡ (stored_view p h).node q
 holder_agrees p n h f l s b w o q v =
     let e = records_are_of_its_grants p n h f l b in
     seen_agrees p n h f.granted (subst (OnStanding (Sees p n h)) b (s.views n) w) (λ x u. o x (ap (has_path x) (sym e) ∙ u)) q (ap (has_path q) e ∙ v)
 
 -- A follower that is about to push, whose locks are its own.
-pub pusher_fits : (p : Plan) (n t moment : ℕ) (h : List Entry) (f : Follower) (r : Request) → IsHistory p h → BeatsClients h → IsSeen p h → place_of p n h ≡ Following f → f.stage ≡ follower.Push → request_of p f.session f.k h ≡ Some r → settled_of f.session h + 1 ≡ f.k
+pub pusher_fits : (p : Plan) (n t moment : ℕ) (h : List Entry) (f : Follower) (r : Request) → IsHistory p h → IsSeen p h → place_of p n h ≡ Following f → f.stage ≡ follower.Push → request_of p f.session f.k h ≡ Some r → settled_of f.session h + 1 ≡ f.k
     → ((q : PathNames) → has_path q (granted n h) ≡ true → IsOwn n (last_grant q h)) → FitsLocked p t n h (record { session = f.session; k = f.k; moment = moment; request = r })
-pusher_fits p n t moment h f r l c s b e q z o = (w.0, λ g v. ap (has_path g) (sym locked) ∙ w.1 g v)
+pusher_fits p n t moment h f r l s b e q z o = (w.0, λ g v. ap (has_path g) (sym locked) ∙ w.1 g v)
   where
     works : progress f.stage ≡ Works
     works = ap progress e
@@ -191,50 +190,50 @@ pusher_fits p n t moment h f r l c s b e q z o = (w.0, λ g v. ap (has_path g) (
 
     w : Fits (stored_view p h) (filled_after (committed_of p h) t (record { session = f.session; k = f.k; moment = moment; request = r })) × Within (edited_paths (filled_after (committed_of p h) t (record { session = f.session; k = f.k; moment = moment; request = r }))) (lock_paths (view_of f.granted) f.owned r)
     w = locked_fits (view_of f.granted) f.owned (committed_of p h) t (record { session = f.session; k = f.k; moment = moment; request = r })
-        (follows_a_client p n f.session f.k h l c (follower_task p n h f l b))
+        (follows_from_1 p n f.session f.k h l (follower_task p n h f l b))
         i.1.1
         (sym (at_work_is_open p n h f l b works z))
         (λ x v. holder_agrees p n h f l s b works o x (ap (has_path x) (sym locked) ∙ v))
         (lists_owned p h f r (subst (OnStanding (Lists p h)) b (s.lists n)) q locks z)
 
-same_task : (a b c k : ℕ) → Some (Follows a b) ≡ Some (Follows c k) → (a ≡ c) × (b ≡ k)
+pub same_task : (a b c k : ℕ) → Some (Follows a b) ≡ Some (Follows c k) → (a ≡ c) × (b ≡ k)
 same_task a b c k e = grind arith
 
-new_fits : (p : Plan) (t n c k : ℕ) (e : Entry) (h : List Entry) (y : Pushed) → IsHistory p (e ∷ h) → BeatsClients h → IsSeen p h → e.op ≡ op.Push n t → IsPushOf t n c k (e ∷ h) → settled_of c (e ∷ h) + 1 ≡ k → ((q : PathNames) → has_path q (granted n (e ∷ h)) ≡ true → IsOwn n (last_grant q (e ∷ h))) → pushed_of p t (e ∷ h) ≡ Some y → FitsLocked p t n (e ∷ h) y
-new_fits p t n c k e h y l b s g x z o q =
+new_fits : (p : Plan) (t n c k : ℕ) (e : Entry) (h : List Entry) (y : Pushed) → IsHistory p (e ∷ h) → IsSeen p h → e.op ≡ op.Push n t → IsPushOf t n c k (e ∷ h) → settled_of c (e ∷ h) + 1 ≡ k → ((q : PathNames) → has_path q (granted n (e ∷ h)) ≡ true → IsOwn n (last_grant q (e ∷ h))) → pushed_of p t (e ∷ h) ≡ Some y → FitsLocked p t n (e ∷ h) y
+new_fits p t n c k e h y l s g x z o q =
     let d : IsDue p h (op.Push n t) = subst (IsDue p h) g (due p e h l) in
     let w : task_of n h ≡ Some (Follows c k) = follower_same p n t c k e h l g d x.task in
     let v = same_task d.0.session d.0.k c k (sym (follower_task p n h d.0 l.0 d.1) ∙ w) in
     let r = push_asks_for_its_request p t n c k (e ∷ h) l x in
     let a : request_of p c k h ≡ Some r.0 = sym (request_stays p c k e h (reached p n c k h l.0 w).2) ∙ r.1 in
     let m = settled_so p c k e h (task_at_most_next p n c k h l.0 w) z in
-    let f = pusher_fits p n t x.push.moment h d.0 r.0 l.0 b s d.1 d.2 (rw (v.0, v.1) a) (rw (v.0, v.1) m) (λ u i. subst (IsOwn n) (ap (λ j. grant_in u (clock_of h) j (last_grant u h)) g) (o u (granted_stays n u e h i))) in
+    let f = pusher_fits p n t x.push.moment h d.0 r.0 l.0 s d.1 d.2 (rw (v.0, v.1) a) (rw (v.0, v.1) m) (λ u i. subst (IsOwn n) (ap (λ j. grant_in u (clock_of h) j (last_grant u h)) g) (o u (granted_stays n u e h i))) in
     let same : record { session = d.0.session; k = d.0.k; moment = x.push.moment; request = r.0 } ≡ y = (λ i. record { session = (v.0) i; k = (v.1) i; moment = x.push.moment; request = r.0 }) ∙ pushed_one _ y (pushed_of p t (e ∷ h)) r.2 q in
     let j : FitsLocked p t n h y = subst (FitsLocked p t n h) same f in
     rw g j
 
 -- Each history. ---------------------------------------------------------------------------------------
 
-pushes_step : (p : Plan) (t : ℕ) (e : Entry) (h : List Entry) (y : Pushed) (o : Option Push) → push_here t (pushed_in (clock_of h) e.op) ≡ o → IsHistory p (e ∷ h) → BeatsClients h → IsSeen p h → (x : IsLive t (e ∷ h)) → pushed_of p t (e ∷ h) ≡ Some y → FitsLocked p t x.function (e ∷ h) y
-pushes_step p t e h y None b l c s x q =
+pushes_step : (p : Plan) (t : ℕ) (e : Entry) (h : List Entry) (y : Pushed) (o : Option Push) → push_here t (pushed_in (clock_of h) e.op) ≡ o → IsHistory p (e ∷ h) → IsSeen p h → (x : IsLive t (e ∷ h)) → pushed_of p t (e ∷ h) ≡ Some y → FitsLocked p t x.function (e ∷ h) y
+pushes_step p t e h y None b l s x q =
     let z = push_bound p t h x.is_of.push l.0 (subst (λ o. or_else o (push_of t h) ≡ Some x.is_of.push) b x.is_of.pushed) in
     still_fits p t e h y l s x q (its_push_before p t x.function x.session x.k e h l z.1 z.2 x.is_of)
-pushes_step p t e h y (Some u) b l c s x q =
+pushes_step p t e h y (Some u) b l s x q =
     let f : u.function ≡ x.function = ap (λ z. z.function) (some_same u x.is_of.push (subst (λ o. or_else o (push_of t h) ≡ Some x.is_of.push) b x.is_of.pushed)) ∙ x.is_of.function in
-    new_fits p t x.function x.session x.k e h y l c s (new_push t h e.op u b ∙ ap (λ z. op.Push z t) f) x.is_of x.next x.own q
+    new_fits p t x.function x.session x.k e h y l s (new_push t h e.op u b ∙ ap (λ z. op.Push z t) f) x.is_of x.next x.own q
   where
     some_same : (a d : Push) → Some a ≡ Some d → a ≡ d
     some_same a d i = cc
 
-pub seen : (p : Plan) (h : List Entry) → IsHistory p h → BeatsClients h → IsSeen p h
-seen p [] l b = record { views = λ n. tt; lists = λ n. tt; pushes = λ t x y q. absurd (unpushed t x.is_of.push x.is_of.pushed) }
+pub seen : (p : Plan) (h : List Entry) → IsHistory p h → IsSeen p h
+seen p [] l = record { views = λ n. tt; lists = λ n. tt; pushes = λ t x y q. absurd (unpushed t x.is_of.push x.is_of.pushed) }
   where
     unpushed : (t : ℕ) (z : Push) → push_of t [] ≡ Some z → ⊥
     unpushed t z e = grind arith
-seen p (e ∷ h) l b =
-    let s = seen p h l.0 b.0 in
+seen p (e ∷ h) l =
+    let s = seen p h l.0 in
     record {
       views = λ n. sees_step p n e h l s;
-      lists = λ n. lists_step p n e h l b.0 s;
-      pushes = λ t x y q. pushes_step p t e h y (push_here t (pushed_in (clock_of h) e.op)) refl l b.0 s x q;
+      lists = λ n. lists_step p n e h l s;
+      pushes = λ t x y q. pushes_step p t e h y (push_here t (pushed_in (clock_of h) e.op)) refl l s x q;
     }

@@ -21,7 +21,7 @@ use Rattle.fk_spec.specs.Start.{Push, pushes_of, count_push, pushed_in, request_
 use Rattle.fk_spec.specs.Locks.{last_grant, granted, granted_in}
 use Rattle.fk_spec.specs.Settling.{settled_of}
 use Rattle.fk_spec.specs.Stored.{committed_of, committed_in, with_filled, filled_after, up_to}
-use Rattle.fk_spec.specs.Follower.{Follower, Granted, node_in}
+use Rattle.fk_spec.specs.Follower.{Follower, Granted, node_in, paths_of}
 use Rattle.fk_spec.specs.Follower as follower
 use Rattle.fk_spec.specs.Function.{Following, place_of}
 use Rattle.fk_spec.specs.Next.{IsHistory}
@@ -29,8 +29,6 @@ use Rattle.fk_law.specs.Due.{IsDue, HoldsAll, IsPushOf, Refuses}
 use Rattle.fk_law.specs.Losing.{IsLive}
 use Rattle.fk_law.specs.Progress.{Works, progress}
 use Rattle.fk_law.specs.Refusing.{RefusalHoldsForEver}
-use Rattle.fk_law.specs.Seeing.{paths_of}
-use Rattle.fk_law.specs.Sessions.{BeatsClients}
 use Rattle.fk_law.proofs.Due.{due}
 use Rattle.fk_law.proofs.Starting.{follower_task}
 use Rattle.fk_law.proofs.Pushing.{push_bound}
@@ -113,10 +111,6 @@ leaves_at : (p : Plan) (c at : ℕ) (ps : List PathNames) (h : List Entry) (o : 
 leaves_at p c at ps h (op.CommitOk a t) l d s f = let x = commit_is p a t h l d in subst (λ z. LeavesAt c at ps (committed_of p h) (with_filled (committed_of p h) t z)) (sym x.is) (commit_leaves p c at t ps h s f x)
 leaves_at p c at ps h o l d s f = (λ q v. refl, refl)
 
-beats_before : (h more : List Entry) → BeatsClients (more ++ h) → BeatsClients h
-beats_before h [] b = b
-beats_before h (e ∷ more) b = beats_before h more b.0
-
 -- Longer histories. -----------------------------------------------------------------------------------
 
 record Lasts (p : Plan) (c at : ℕ) (r : Request) (x : Refusal) (h : List Entry) : Type 0 where
@@ -127,19 +121,19 @@ record Lasts (p : Plan) (c at : ℕ) (r : Request) (x : Refusal) (h : List Entry
 count_more : (o : Option Push) (n : ℕ) → n ≤ count_push o n
 count_more o n = grind arith
 
-lasts_on : (p : Plan) (c at : ℕ) (r : Request) (x : Refusal) (e : Entry) (h : List Entry) → IsHistory p (e ∷ h) → BeatsClients h → Lasts p c at r x h → Lasts p c at r x (e ∷ h)
-lasts_on p c at r x e h l b i = record {
+lasts_on : (p : Plan) (c at : ℕ) (r : Request) (x : Refusal) (e : Entry) (h : List Entry) → IsHistory p (e ∷ h) → Lasts p c at r x h → Lasts p c at r x (e ∷ h)
+lasts_on p c at r x e h l i = record {
   refused = record { records = i.refused.records; owned = i.refused.owned; shows = i.refused.shows; locked = i.refused.locked; agree = λ q v. i.refused.agree q v ∙ sym (s.0 q v); open_then = s.1 ∙ i.refused.open_then };
   pushed = (let u = i.pushed in let v = count_more (pushed_in 0 e.op) (pushes_of h) in omega (arith, u, v));
   final = final_on p c at (paths_of i.refused.records) e h l i.pushed i.final;
 }
   where
     s : LeavesAt c at (paths_of i.refused.records) (committed_of p h) (committed_of p (e ∷ h))
-    s = leaves_at p c at (paths_of i.refused.records) h e.op l.0 (due p e h l) (seen p h l.0 b) i.final
+    s = leaves_at p c at (paths_of i.refused.records) h e.op l.0 (due p e h l) (seen p h l.0) i.final
 
-lasts : (p : Plan) (c at : ℕ) (r : Request) (x : Refusal) (h more : List Entry) → IsHistory p (more ++ h) → BeatsClients (more ++ h) → Lasts p c at r x h → Lasts p c at r x (more ++ h)
-lasts p c at r x h [] l b i = i
-lasts p c at r x h (e ∷ more) l b i = lasts_on p c at r x e (more ++ h) l b.0 (lasts p c at r x h more l.0 b.0 i)
+lasts : (p : Plan) (c at : ℕ) (r : Request) (x : Refusal) (h more : List Entry) → IsHistory p (more ++ h) → Lasts p c at r x h → Lasts p c at r x (more ++ h)
+lasts p c at r x h [] l i = i
+lasts p c at r x h (e ∷ more) l i = lasts_on p c at r x e (more ++ h) l (lasts p c at r x h more l.0 i)
 
 closed_for_ever : (p : Plan) (c at : ℕ) (h more : List Entry) → IsHistory p (more ++ h) → (view_after (up_to at (committed_of p h))).closed c ≡ true → (view_after (up_to at (committed_of p (more ++ h)))).closed c ≡ true
 closed_for_ever p c at h [] l i = i
@@ -183,21 +177,20 @@ refused_now_lasts p n place at cd e h f r x l g v y i = record {
     same : committed_of p (e ∷ h) ≡ committed_of p h
     same = ap (λ o. committed_in p h o (committed_of p h)) g
 
-refusal_lasts : (p : Plan) (n place at : ℕ) (cd : Code) (e : Entry) (h more : List Entry) (f : Follower) (r : Request) (s : follower.Stage) → f.stage ≡ s → IsHistory p (e ∷ h) → IsHistory p (more ++ e ∷ h) → BeatsClients h → BeatsClients (more ++ e ∷ h) → e.op ≡ op.RefuseOk n cd place at → at ≤ pushes_of h → place_of p n h ≡ Following f → settled_of f.session h + 1 ≡ f.k → Refuses n cd place at h s → request_of p f.session f.k h ≡ Some r
+refusal_lasts : (p : Plan) (n place at : ℕ) (cd : Code) (e : Entry) (h more : List Entry) (f : Follower) (r : Request) (s : follower.Stage) → f.stage ≡ s → IsHistory p (e ∷ h) → IsHistory p (more ++ e ∷ h) → e.op ≡ op.RefuseOk n cd place at → at ≤ pushes_of h → place_of p n h ≡ Following f → settled_of f.session h + 1 ≡ f.k → Refuses n cd place at h s → request_of p f.session f.k h ≡ Some r
     → check (view_after (up_to at (committed_of p (more ++ e ∷ h)))) f.session r ≡ Some (record { code = cd; place = place })
-refusal_lasts p n place at cd e h more f r (follower.Refuse x a) w l m b c g v i z d q =
-    let y = subst (λ t. (y : IsRefused p f.session t r x h) × (y.records ≡ f.granted)) d.2 (seen_refusal p n a x h f r l.0 b i w z d.3 q) in
+refusal_lasts p n place at cd e h more f r (follower.Refuse x a) w l m g v i z d q =
+    let y = subst (λ t. (y : IsRefused p f.session t r x h) × (y.records ≡ f.granted)) d.2 (seen_refusal p n a x h f r l.0 i w z d.3 q) in
     let j = refused_now_lasts p n place at cd e h f r x l g v y.0 (subst (λ gs. IsFinal f.session at (paths_of gs) (e ∷ h)) (sym y.1) (final_now p n place at cd e h f l g v i (ap progress w) z d.3)) in
-    refused_holds p f.session at r x (more ++ e ∷ h) m c (lasts p f.session at r x (e ∷ h) more m c j).refused ∙ (λ k. Some (record { code = (d.0) k; place = (d.1) k }))
-refusal_lasts p n place at cd e h more f r (follower.Expire a) w l m b c g v i z d q =
-    closed_refusal (view_after (up_to at (committed_of p (more ++ e ∷ h)))) f.session r (closed_for_ever p f.session at (e ∷ h) more m (closed_on p at f.session h e.op l.0 (due p e h l) (subst (λ y. (view_after (up_to y (committed_of p h))).closed f.session ≡ true) d.2 (closed_at_its_number p n a h f l.0 b i w))))
+    refused_holds p f.session at r x (more ++ e ∷ h) m (lasts p f.session at r x (e ∷ h) more m j).refused ∙ (λ k. Some (record { code = (d.0) k; place = (d.1) k }))
+refusal_lasts p n place at cd e h more f r (follower.Expire a) w l m g v i z d q =
+    closed_refusal (view_after (up_to at (committed_of p (more ++ e ∷ h)))) f.session r (closed_for_ever p f.session at (e ∷ h) more m (closed_on p at f.session h e.op l.0 (due p e h l) (subst (λ y. (view_after (up_to y (committed_of p h))).closed f.session ≡ true) d.2 (closed_at_its_number p n a h f l.0 i w))))
     ∙ sym (λ j. Some (record { code = (d.0) j; place = (d.1) j }))
-refusal_lasts p n place at cd e h more f r s w l m b c g v i z d q = absurd d
+refusal_lasts p n place at cd e h more f r s w l m g v i z d q = absurd d
 
 pub refusal_holds_for_ever : RefusalHoldsForEver
-refusal_holds_for_ever p n place at cd e h more f r l b g v i q =
+refusal_holds_for_ever p n place at cd e h more f r l g v i q =
     let m = history_before p (e ∷ h) more l in
-    let c = beats_before (e ∷ h) more b in
     let d : IsDue p h (op.RefuseOk n cd place at) = subst (IsDue p h) g (due p e h m) in
     let x = same_follower p h n n d.0 f d.1 refl i in
-    refusal_lasts p n place at cd e h more f r f.stage refl m l c.0 b g v i (subst (λ y. settled_of y.session h + 1 ≡ y.k) x d.2) (subst (λ y. Refuses n cd place at h y.stage) x d.3) q
+    refusal_lasts p n place at cd e h more f r f.stage refl m l g v i (subst (λ y. settled_of y.session h + 1 ≡ y.k) x d.2) (subst (λ y. Refuses n cd place at h y.stage) x d.3) q

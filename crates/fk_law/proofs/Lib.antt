@@ -6,6 +6,7 @@ pub mod Closes
 pub mod Closing
 pub mod Committing
 pub mod Deciding
+pub mod Draining
 pub mod Due
 pub mod Editing
 pub mod Filling

@@ -23,7 +23,6 @@ use Rattle.fk_spec.specs.Next.{IsHistory}
 use Rattle.fk_law.specs.Due.{IsDue}
 use Rattle.fk_law.specs.Numbered.{with_some, numbered, NumberedLeaveTheSame, NumberedFit, NumberedTreeIsShown}
 use Rattle.fk_law.specs.Numbering.{IsNewest, AllNewest}
-use Rattle.fk_law.specs.Sessions.{BeatsClients}
 use Rattle.fk_law.proofs.Due.{due}
 use Rattle.fk_law.proofs.Committing.{commits_once}
 use Rattle.fk_law.proofs.Sending.{was_committed}
@@ -112,7 +111,7 @@ one_more_step n b a rest m k u i e = by_push (nat_eq b.tx (suc n)) refl e
     by_push true v e = subst (λ x. view_after (up_to (suc n) (b ∷ rest)) ≡ after (view_after (up_to n (b ∷ rest))) x) (same b a e) (first v)
     by_push false v e = ap (λ z. view_after (cond z (b ∷ up_to (suc n) rest) (up_to (suc n) rest))) (same_test b.tx n v) ∙ later e (nat_le b.tx n) refl
 
-one_more : (n : ℕ) (done : List Applied) (a : Applied) → AllNewest done → AllOnce done → applied_as (suc n) done ≡ Some a → view_after (up_to (suc n) done) ≡ after (view_after (up_to n done)) a
+pub one_more : (n : ℕ) (done : List Applied) (a : Applied) → AllNewest done → AllOnce done → applied_as (suc n) done ≡ Some a → view_after (up_to (suc n) done) ≡ after (view_after (up_to n done)) a
 one_more n [] a m u e = absurd (grind arith)
 one_more n (b ∷ rest) a m u e = one_more_step n b a rest m.0 m.1 u.0 (one_more n rest a m.1 u.1) e
 
@@ -134,15 +133,15 @@ numbered_same zero done m u = ap view_after (sym (none_numbered done m))
 numbered_same (suc n) done m u = numbered_step n done m u (numbered_same n done m u) (applied_as (suc n) done) refl
 
 pub numbered_leave_the_same : NumberedLeaveTheSame
-numbered_leave_the_same p n h l b = numbered_same n (committed_of p h) (commits_rise p h l b) (all_once p h l)
+numbered_leave_the_same p n h l = numbered_same n (committed_of p h) (commits_rise p h l) (all_once p h l)
 
-fit_step : (p : Plan) (n : ℕ) (h : List Entry) → IsHistory p h → BeatsClients h → AllFit (numbered n (committed_of p h)) → (o : Option Applied) → committed_as p (suc n) h ≡ o → AllFit (with_some o (numbered n (committed_of p h)))
-fit_step p n h l b i None e = i
-fit_step p n h l b i (Some a) e = (subst (λ v. Fits v a) (sym (numbered_leave_the_same p n h l b)) (commit_fits_at_its_number p n (suc n) h a l b e (omega arith)), i)
+fit_step : (p : Plan) (n : ℕ) (h : List Entry) → IsHistory p h → AllFit (numbered n (committed_of p h)) → (o : Option Applied) → committed_as p (suc n) h ≡ o → AllFit (with_some o (numbered n (committed_of p h)))
+fit_step p n h l i None e = i
+fit_step p n h l i (Some a) e = (subst (λ v. Fits v a) (sym (numbered_leave_the_same p n h l)) (commit_fits_at_its_number p n (suc n) h a l e (omega arith)), i)
 
 pub numbered_fit : NumberedFit
-numbered_fit p zero h l b = tt
-numbered_fit p (suc n) h l b = fit_step p n h l b (numbered_fit p n h l b) (committed_as p (suc n) h) refl
+numbered_fit p zero h l = tt
+numbered_fit p (suc n) h l = fit_step p n h l (numbered_fit p n h l) (committed_as p (suc n) h) refl
 
 pub numbered_tree_is_shown : NumberedTreeIsShown
-numbered_tree_is_shown p n h l b = views_are_trees (numbered n (committed_of p h)) (numbered_fit p n h l b)
+numbered_tree_is_shown p n h l = views_are_trees (numbered n (committed_of p h)) (numbered_fit p n h l)

@@ -32,7 +32,6 @@ use Rattle.fk_spec.specs.PublicLines.{greatest_tx, greatest_request}
 use Rattle.fk_law.specs.Due.{IsDue, IsPushOf}
 use Rattle.fk_law.specs.Numbered.{with_some, numbered}
 use Rattle.fk_law.specs.Publishing.{all_printed, PublishedTreeIsShown, EachRequestOnce}
-use Rattle.fk_law.specs.Sessions.{BeatsClients}
 use Rattle.fk_law.proofs.Due.{due}
 use Rattle.fk_law.proofs.Pushing.{push_bound}
 use Rattle.fk_law.proofs.Settled.{commit_of, reached}
@@ -102,11 +101,11 @@ tree_is zero zero done f b = refl
 tree_is (suc n) zero done f b = absurd (omega (arith, b))
 tree_is n (suc m) done f b = tree_step n m done (f (suc m)) (λ c. tree_is n m done f c) b
 
-published_is : (p : Plan) (n : ℕ) (h : List Entry) → IsHistory p h → BeatsClients h → n ≤ mark_of h → published_tree h n ≡ tree_after (numbered n (committed_of p h))
-published_is p n h l b v = ap (tree_of n) (txs_are_the_commits p h l) ∙ tree_is n (mark_of h) (committed_of p h) (λ k. numbered_fit p k h l b) v
+published_is : (p : Plan) (n : ℕ) (h : List Entry) → IsHistory p h → n ≤ mark_of h → published_tree h n ≡ tree_after (numbered n (committed_of p h))
+published_is p n h l v = ap (tree_of n) (txs_are_the_commits p h l) ∙ tree_is n (mark_of h) (committed_of p h) (λ k. numbered_fit p k h l) v
 
 pub published_tree_is_shown : PublishedTreeIsShown
-published_tree_is_shown p n h l b v = ap look (published_is p n h l b v) ∙ ((numbered_tree_is_shown p n h l b).shown ∙ numbered_leave_the_same p n h l b)
+published_tree_is_shown p n h l v = ap look (published_is p n h l v) ∙ ((numbered_tree_is_shown p n h l).shown ∙ numbered_leave_the_same p n h l)
 
 -- What a commit is of. --------------------------------------------------------------------------------
 
@@ -186,8 +185,8 @@ below_request c k (suc m) done b f = least_step c k m done (applied_as (suc m) d
 less_test : (a b : ℕ) → a < b → nat_lt a b ≡ true
 less_test a b e = grind (arith, nat_tests)
 
-line_fits : (p : Plan) (m : ℕ) (h : List Entry) (a : Applied) → IsHistory p h → BeatsClients h → suc m ≤ mark_of h → committed_as p (suc m) h ≡ Some a → TxFits p h (printed_of a) (all_printed (numbered m (committed_of p h)))
-line_fits p m h a l b v q = record {
+line_fits : (p : Plan) (m : ℕ) (h : List Entry) (a : Applied) → IsHistory p h → suc m ≤ mark_of h → committed_as p (suc m) h ≡ Some a → TxFits p h (printed_of a) (all_printed (numbered m (committed_of p h)))
+line_fits p m h a l v q = record {
   rises = less_test (greatest_tx (all_printed (numbered m done))) a.tx (let g = greatest_at_most m done in omega (arith, g, number));
   in_order = less_test (greatest_request a.session (all_printed (numbered m done))) a.k (below_request a.session a.k m done (reached p x.function a.session a.k h l x.is_of.task).0 earlier);
   applied = subst (ShowsApplied h (printed_of a)) (sym published) (refl, ap (λ t. check (look t) a.session a.request) tree ∙ filled.passes);
@@ -208,10 +207,10 @@ line_fits p m h a l b v q = record {
         requests_rise p (suc m) x.function n y.function a.session a.k c.k h l x.is_of (subst (λ z. IsPushOf n y.function z c.k h) s y.is_of) (was_committed p (suc m) h a q) (was_committed p n h c e) (omega (arith, w))
 
     tree : published_tree h (a.tx - 1) ≡ tree_after (numbered m done)
-    tree = ap (published_tree h) (omega (arith, number)) ∙ published_is p m h l b (omega (arith, v))
+    tree = ap (published_tree h) (omega (arith, number)) ∙ published_is p m h l (omega (arith, v))
 
     filled : IsFilled (tree_after (numbered m done)) a
-    filled = is_filled (tree_after (numbered m done)) a (subst (λ z. Fits z a) (sym ((numbered_tree_is_shown p m h l b).shown ∙ numbered_leave_the_same p m h l b)) (commit_fits_at_its_number p m (suc m) h a l b q (omega arith)))
+    filled = is_filled (tree_after (numbered m done)) a (subst (λ z. Fits z a) (sym ((numbered_tree_is_shown p m h l).shown ∙ numbered_leave_the_same p m h l)) (commit_fits_at_its_number p m (suc m) h a l q (omega arith)))
 
     published : published_as p a.tx h ≡ Some a
     published =
@@ -219,13 +218,13 @@ line_fits p m h a l b v q = record {
         ∙ (ap (filled_on (tree_after (numbered m done)) a.tx) (ap (λ t. pushed_of p t h) number ∙ x.pushed)
         ∙ ap Some (sym filled.filled))
 
-lines_step : (p : Plan) (m : ℕ) (h : List Entry) (o : Option Applied) → IsHistory p h → BeatsClients h → suc m ≤ mark_of h → committed_as p (suc m) h ≡ o → TxsFit p h (all_printed (numbered m (committed_of p h))) → TxsFit p h (all_printed (with_some o (numbered m (committed_of p h))))
-lines_step p m h None l b v q i = i
-lines_step p m h (Some a) l b v q i = (line_fits p m h a l b v q, i)
+lines_step : (p : Plan) (m : ℕ) (h : List Entry) (o : Option Applied) → IsHistory p h → suc m ≤ mark_of h → committed_as p (suc m) h ≡ o → TxsFit p h (all_printed (numbered m (committed_of p h))) → TxsFit p h (all_printed (with_some o (numbered m (committed_of p h))))
+lines_step p m h None l v q i = i
+lines_step p m h (Some a) l v q i = (line_fits p m h a l v q, i)
 
-lines_fit : (p : Plan) (m : ℕ) (h : List Entry) → IsHistory p h → BeatsClients h → m ≤ mark_of h → TxsFit p h (all_printed (numbered m (committed_of p h)))
-lines_fit p zero h l b v = tt
-lines_fit p (suc m) h l b v = lines_step p m h (committed_as p (suc m) h) l b v refl (lines_fit p m h l b (omega (arith, v)))
+lines_fit : (p : Plan) (m : ℕ) (h : List Entry) → IsHistory p h → m ≤ mark_of h → TxsFit p h (all_printed (numbered m (committed_of p h)))
+lines_fit p zero h l v = tt
+lines_fit p (suc m) h l v = lines_step p m h (committed_as p (suc m) h) l v refl (lines_fit p m h l (omega (arith, v)))
 
 pub each_request_once : EachRequestOnce
-each_request_once p h l b = subst (TxsFit p h) (sym (txs_are_the_commits p h l)) (lines_fit p (mark_of h) h l b (omega arith))
+each_request_once p h l = subst (TxsFit p h) (sym (txs_are_the_commits p h l)) (lines_fit p (mark_of h) h l (omega arith))

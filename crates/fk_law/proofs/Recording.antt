@@ -15,13 +15,13 @@ use Rattle.fk_spec.specs.Plan.{Plan}
 use Rattle.fk_spec.specs.Start.{Follows, seen_with}
 use Rattle.fk_spec.specs.Locks.{granted, granted_in}
 use Rattle.fk_spec.specs.Settling.{last_of_session}
-use Rattle.fk_spec.specs.Follower.{Follower, Granted, next_with, to_lock}
+use Rattle.fk_spec.specs.Follower.{Follower, Granted, next_with, to_lock, paths_of}
 use Rattle.fk_spec.specs.Follower as follower
 use Rattle.fk_spec.specs.Function.{place_of, actor}
 use Rattle.fk_spec.specs.Next.{IsHistory}
 use Rattle.fk_law_tree.proofs.Members.{or_left}
 use Rattle.fk_law.specs.Due.{IsDue}
-use Rattle.fk_law.specs.Seeing.{paths_of, RecordsAreOfItsGrants}
+use Rattle.fk_law.specs.Seeing.{RecordsAreOfItsGrants}
 use Rattle.fk_law.proofs.Due.{due}
 use Rattle.fk_law.proofs.Standing.{OnStanding, standing_step}
 use Rattle.fk_law.proofs.Starting.{task_bound}

@@ -23,15 +23,14 @@ use Rattle.fk_spec.specs.Start.{Follows, clock_of, task_of, push_of, request_of,
 use Rattle.fk_spec.specs.Locks.{is_push_of, last_grant, grant_in}
 use Rattle.fk_spec.specs.Settling.{settled_of, last_of_session}
 use Rattle.fk_spec.specs.Stored.{committed_of, stored_view}
-use Rattle.fk_spec.specs.Follower.{Follower, Granted, node_in, view_of, next_with, to_lock, to_begin, begin}
+use Rattle.fk_spec.specs.Follower.{Follower, Granted, node_in, view_of, next_with, to_lock, to_begin, begin, paths_of}
 use Rattle.fk_spec.specs.Follower as follower
 use Rattle.fk_spec.specs.Function.{Following, place_of, actor}
 use Rattle.fk_spec.specs.Next.{IsHistory}
 use Rattle.fk_law.specs.Due.{IsDue}
 use Rattle.fk_law.specs.Losing.{IsOwn, IsLive}
 use Rattle.fk_law.specs.Progress.{Works, progress, progress_after}
-use Rattle.fk_law.specs.Seeing.{paths_of, IsCurrent, AreCurrent, Locks}
-use Rattle.fk_law.specs.Sessions.{BeatsClients}
+use Rattle.fk_law.specs.Seeing.{IsCurrent, AreCurrent, Locks}
 use Rattle.fk_law.proofs.Due.{due}
 use Rattle.fk_law.proofs.Moving.{ahead}
 use Rattle.fk_law.proofs.Standing.{OnStanding, standing_step}
@@ -41,7 +40,7 @@ use Rattle.fk_law.proofs.Committing.{at_work_unpushed, is_push_of_it}
 use Rattle.fk_law.proofs.Closing.{settled_so}
 use Rattle.fk_law.proofs.Rising.{own_before}
 use Rattle.fk_law.proofs.Sending.{request_stays}
-use Rattle.fk_law.proofs.Clients.{follows_a_client}
+use Rattle.fk_law.proofs.Clients.{follows_from_1}
 use Rattle.fk_law.proofs.Deciding.{StandsSo, stands_at, in_order_of, left_over, first_left, same_follower, unsettled_nothing}
 use Rattle.fk_law.proofs.Recording.{granted_after}
 use Rattle.fk_law.proofs.Filling.{owned_has, not_none}
@@ -175,8 +174,8 @@ lists_move p n h r (op.LockOk m path) f z d b a c i w q v = i (subst Locks (sym 
 lists_move p n h r (op.LockBusy m path holder moment) f z d b a c i w q v = i w q v
 lists_move p n h r o f z d b a c i w q v = absurd w
 
-pub lists_step : (p : Plan) (n : ℕ) (e : Entry) (h : List Entry) → IsHistory p (e ∷ h) → BeatsClients h → IsSeen p h → OnStanding (Lists p (e ∷ h)) (place_of p n (e ∷ h))
-lists_step p n e h l t i =
+pub lists_step : (p : Plan) (n : ℕ) (e : Entry) (h : List Entry) → IsHistory p (e ∷ h) → IsSeen p h → OnStanding (Lists p (e ∷ h)) (place_of p n (e ∷ h))
+lists_step p n e h l i =
     standing_step p n h e.op (place_of p n h) (Lists p (e ∷ h))
     (λ f b _. later f f b (at f b))
     (λ c k _ r _ _ w. absurd w)
@@ -189,7 +188,7 @@ lists_step p n e h l t i =
     task f b = follower_task p n h f l.0 b
 
     client : (f : Follower) → place_of p n h ≡ Following f → f.session ≢ 0
-    client f b = not_none f.session (follows_a_client p n f.session f.k h l.0 t (task f b))
+    client f b = not_none f.session (follows_from_1 p n f.session f.k h l.0 (task f b))
 
     later : (f g : Follower) → place_of p n h ≡ Following f → ListsIn p h f.session f.k g → ListsIn p (e ∷ h) f.session f.k g
     later f g b j r q c w s x v =

@@ -172,7 +172,7 @@ between_step s n q a done b f i = by_tests (nat_le a.tx s) refl (nat_le a.tx n) 
     by_tests false u true v = i ∙ sym (unedited_stays (view_after (up_to n done)) a q (f (grind (arith, nat_tests)) (grind (arith, nat_tests))))
     by_tests false u false v = i
 
-same_between : (s n : ℕ) (q : PathNames) (done : List Applied) → s ≤ n → NoneBetween s n q done → (view_after (up_to s done)).node q ≡ (view_after (up_to n done)).node q
+pub same_between : (s n : ℕ) (q : PathNames) (done : List Applied) → s ≤ n → NoneBetween s n q done → (view_after (up_to s done)).node q ≡ (view_after (up_to n done)).node q
 same_between s n q [] b f = refl
 same_between s n q (a ∷ done) b f = between_step s n q a done b f.0 (same_between s n q done b f.1)
 
@@ -198,25 +198,25 @@ found_on done (a ∷ rest) b u f = (found_one done a b u f.0, found_on done rest
 found_first : (b : Applied) (done : List Applied) → applied_as b.tx (b ∷ done) ≡ Some b
 found_first b done = let s : nat_eq b.tx b.tx ≡ true = grind (arith, nat_tests) in rw s refl
 
-all_found : (done : List Applied) → AllOnce done → AllFound done done
+pub all_found : (done : List Applied) → AllOnce done → AllFound done done
 all_found [] u = tt
 all_found (b ∷ done) u = (found_first b done, found_on done done b u.0 (all_found done u.1))
 
-none_between : (s n : ℕ) (q : PathNames) (done rest : List Applied) → AllFound done rest → ((a : Applied) → applied_as a.tx done ≡ Some a → s < a.tx → a.tx ≤ n → has_path q (edited_paths a) ≡ false) → NoneBetween s n q rest
+pub none_between : (s n : ℕ) (q : PathNames) (done rest : List Applied) → AllFound done rest → ((a : Applied) → applied_as a.tx done ≡ Some a → s < a.tx → a.tx ≤ n → has_path q (edited_paths a) ≡ false) → NoneBetween s n q rest
 none_between s n q done [] f g = tt
 none_between s n q done (a ∷ rest) f g = (g a f.0, none_between s n q done rest f.1 g)
 
 pub record_is_the_node : RecordIsTheNode
-record_is_the_node p n h q l b s m =
+record_is_the_node p n h q l s m =
     same_between (stamp_of q h) n q (committed_of p h) s (none_between (stamp_of q h) n q (committed_of p h) (committed_of p h) (all_found (committed_of p h) (all_once p h l)) unedited)
-    ∙ sym (ap (λ v. v.node q) (published_tree_is_shown p n h l b m))
+    ∙ sym (ap (λ v. v.node q) (published_tree_is_shown p n h l m))
   where
     unedited : (a : Applied) → committed_as p a.tx h ≡ Some a → stamp_of q h < a.tx → a.tx ≤ n → has_path q (edited_paths a) ≡ false
     unedited a e u v = by_test (has_path q (edited_paths a)) (λ z. z ≡ false) (λ w. let x = published_are_stamped p a.tx h a q l e (omega (arith, v, m)) w in absurd (omega (arith, u, x))) (λ _. refl)
 
 -- What is final. --------------------------------------------------------------------------------------
 
-beyond_not : (n : ℕ) (a : Applied) (done : List Applied) → n < a.tx → up_to n (a ∷ done) ≡ up_to n done
+pub beyond_not : (n : ℕ) (a : Applied) (done : List Applied) → n < a.tx → up_to n (a ∷ done) ≡ up_to n done
 beyond_not n a done b = let s : nat_le a.tx n ≡ false = grind (arith, nat_tests) in rw s refl
 
 final_step : (p : Plan) (n : ℕ) (h : List Entry) (o : Op) → IsHistory p h → IsDue p h o → n ≤ swept_of h → up_to n (committed_in p h o (committed_of p h)) ≡ up_to n (committed_of p h)

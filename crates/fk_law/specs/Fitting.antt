@@ -21,41 +21,40 @@ use Rattle.fk_spec.specs.Function.{Following, place_of}
 use Rattle.fk_spec.specs.Next.{IsHistory}
 use Rattle.fk_law.specs.Due.{IsDue, IsPushOf}
 use Rattle.fk_law.specs.Losing.{IsOwn, IsLive}
-use Rattle.fk_law.specs.Sessions.{BeatsClients}
 
 -- A live push, filled from what the commits left, fits that.
 abbrev pub LivePushFits : Type 0
-LivePushFits = (p : Plan) (t : ℕ) (h : List Entry) (y : Pushed) → IsHistory p h → BeatsClients h → IsLive t h → pushed_of p t h ≡ Some y → Fits (stored_view p h) (filled_after (committed_of p h) t y)
+LivePushFits = (p : Plan) (t : ℕ) (h : List Entry) (y : Pushed) → IsHistory p h → IsLive t h → pushed_of p t h ≡ Some y → Fits (stored_view p h) (filled_after (committed_of p h) t y)
 
 -- What it would edit was granted to its function.
 abbrev pub LivePushEditsWhatItLocked : Type 0
-LivePushEditsWhatItLocked = (p : Plan) (t n c k : ℕ) (h : List Entry) (y : Pushed) → IsHistory p h → BeatsClients h → IsLive t h → IsPushOf t n c k h → pushed_of p t h ≡ Some y → Within (edited_paths (filled_after (committed_of p h) t y)) (granted n h)
+LivePushEditsWhatItLocked = (p : Plan) (t n c k : ℕ) (h : List Entry) (y : Pushed) → IsHistory p h → IsLive t h → IsPushOf t n c k h → pushed_of p t h ≡ Some y → Within (edited_paths (filled_after (committed_of p h) t y)) (granted n h)
 
 -- What a commit edited was granted to its push's function.
 abbrev pub PushLocksWhatItEdits : Type 0
-PushLocksWhatItEdits = (p : Plan) (t n c k : ℕ) (h : List Entry) (a : Applied) → IsHistory p h → BeatsClients h → IsPushOf t n c k h → committed_as p t h ≡ Some a → Within (edited_paths a) (granted n h)
+PushLocksWhatItEdits = (p : Plan) (t n c k : ℕ) (h : List Entry) (a : Applied) → IsHistory p h → IsPushOf t n c k h → committed_as p t h ≡ Some a → Within (edited_paths a) (granted n h)
 
 -- Where a push commits, each path that it edits was granted to its function last.
 abbrev pub OnlyTheHolderEdits : Type 0
 OnlyTheHolderEdits =
-    (p : Plan) (actor t n c k : ℕ) (h : List Entry) (y : Pushed) (path : PathNames) → IsHistory p h → BeatsClients h → IsDue p h (op.CommitOk actor t) → IsPushOf t n c k h → pushed_of p t h ≡ Some y
+    (p : Plan) (actor t n c k : ℕ) (h : List Entry) (y : Pushed) (path : PathNames) → IsHistory p h → IsDue p h (op.CommitOk actor t) → IsPushOf t n c k h → pushed_of p t h ≡ Some y
     → has_path path (edited_paths (filled_after (committed_of p h) t y)) ≡ true → IsOwn n (last_grant path h)
 
 -- Each commit fits what those before it left, and a tree shows what they all left.
 abbrev pub CommitsFit : Type 0
-CommitsFit = (p : Plan) (h : List Entry) → IsHistory p h → BeatsClients h → AllFit (committed_of p h)
+CommitsFit = (p : Plan) (h : List Entry) → IsHistory p h → AllFit (committed_of p h)
 
 abbrev pub StoredTreeIsShown : Type 0
-StoredTreeIsShown = (p : Plan) (h : List Entry) → IsHistory p h → BeatsClients h → IsShown (committed_of p h)
+StoredTreeIsShown = (p : Plan) (h : List Entry) → IsHistory p h → IsShown (committed_of p h)
 
 -- What is filled from the commits for a follower that is about to push fits what the follower has seen, where
 -- its request is the next to settle and its locks are its own. A request fits a view in one way: so the
 -- follower fills the same from what it has seen.
 abbrev pub FollowerFillsTheSame : Type 0
 FollowerFillsTheSame =
-    (p : Plan) (n t moment : ℕ) (h : List Entry) (f : Follower) (r : Request) → IsHistory p h → BeatsClients h → place_of p n h ≡ Following f → f.stage ≡ follower.Push → request_of p f.session f.k h ≡ Some r → settled_of f.session h + 1 ≡ f.k
+    (p : Plan) (n t moment : ℕ) (h : List Entry) (f : Follower) (r : Request) → IsHistory p h → place_of p n h ≡ Following f → f.stage ≡ follower.Push → request_of p f.session f.k h ≡ Some r → settled_of f.session h + 1 ≡ f.k
     → ((path : PathNames) → has_path path (granted n h) ≡ true → IsOwn n (last_grant path h)) → Fits (view_of f.granted) (filled_after (committed_of p h) t (record { session = f.session; k = f.k; moment = moment; request = r }))
 
 -- A push is committed as it would have been at any time since it was pushed.
 abbrev pub CommittedAsPushed : Type 0
-CommittedAsPushed = (p : Plan) (t n c k : ℕ) (h more : List Entry) (y : Pushed) (a : Applied) → IsHistory p (more ++ h) → BeatsClients (more ++ h) → IsPushOf t n c k h → is_committed t h ≡ false → pushed_of p t h ≡ Some y → committed_as p t (more ++ h) ≡ Some a → a ≡ filled_after (committed_of p h) t y
+CommittedAsPushed = (p : Plan) (t n c k : ℕ) (h more : List Entry) (y : Pushed) (a : Applied) → IsHistory p (more ++ h) → IsPushOf t n c k h → is_committed t h ≡ false → pushed_of p t h ≡ Some y → committed_as p t (more ++ h) ≡ Some a → a ≡ filled_after (committed_of p h) t y

@@ -7,7 +7,6 @@ use Rattle.fk_law_tree.specs.Following.{AllFit, IsShown}
 use Rattle.fk_spec.specs.Plan.{Plan}
 use Rattle.fk_spec.specs.Stored.{committed_of, applied_as, up_to}
 use Rattle.fk_spec.specs.Next.{IsHistory}
-use Rattle.fk_law.specs.Sessions.{BeatsClients}
 
 abbrev pub with_some : Option Applied → List Applied → List Applied
 with_some None done = done
@@ -21,10 +20,10 @@ numbered (suc n) done = with_some (applied_as (suc n) done) (numbered n done)
 -- In the order of their numbers the commits up to a number leave the same as in that in which they were made,
 -- each fits those before it, and a tree shows what they leave.
 abbrev pub NumberedLeaveTheSame : Type 0
-NumberedLeaveTheSame = (p : Plan) (n : ℕ) (h : List Entry) → IsHistory p h → BeatsClients h → view_after (numbered n (committed_of p h)) ≡ view_after (up_to n (committed_of p h))
+NumberedLeaveTheSame = (p : Plan) (n : ℕ) (h : List Entry) → IsHistory p h → view_after (numbered n (committed_of p h)) ≡ view_after (up_to n (committed_of p h))
 
 abbrev pub NumberedFit : Type 0
-NumberedFit = (p : Plan) (n : ℕ) (h : List Entry) → IsHistory p h → BeatsClients h → AllFit (numbered n (committed_of p h))
+NumberedFit = (p : Plan) (n : ℕ) (h : List Entry) → IsHistory p h → AllFit (numbered n (committed_of p h))
 
 abbrev pub NumberedTreeIsShown : Type 0
-NumberedTreeIsShown = (p : Plan) (n : ℕ) (h : List Entry) → IsHistory p h → BeatsClients h → IsShown (numbered n (committed_of p h))
+NumberedTreeIsShown = (p : Plan) (n : ℕ) (h : List Entry) → IsHistory p h → IsShown (numbered n (committed_of p h))

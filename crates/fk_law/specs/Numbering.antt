@@ -17,7 +17,6 @@ use Rattle.fk_spec.specs.Stored.{committed_of, committed_as, gone_after, last_ed
 use Rattle.fk_spec.specs.Next.{IsHistory}
 use Rattle.fk_law.specs.Due.{IsPushOf}
 use Rattle.fk_law.specs.Losing.{IsLive}
-use Rattle.fk_law.specs.Sessions.{BeatsClients}
 
 -- the last of a session's commits, 0 where there is none
 abbrev pub last_in : ℕ → List Applied → ℕ
@@ -35,27 +34,27 @@ AllNewest (a ∷ done) = IsNewest done a × AllNewest done
 
 -- A live push is beyond the last commit of its session and of each path that its function was granted.
 abbrev pub LivePushIsNewest : Type 0
-LivePushIsNewest = (p : Plan) (t n c k : ℕ) (h : List Entry) → IsHistory p h → BeatsClients h → IsLive t h → IsPushOf t n c k h → (last_of_session c h < t) × ((q : PathNames) → has_path q (granted n h) ≡ true → last_edit p q h < t)
+LivePushIsNewest = (p : Plan) (t n c k : ℕ) (h : List Entry) → IsHistory p h → IsLive t h → IsPushOf t n c k h → (last_of_session c h < t) × ((q : PathNames) → has_path q (granted n h) ≡ true → last_edit p q h < t)
 
 -- Each commit is beyond those before it that edited one of its paths, or were of its session.
 abbrev pub CommitsRise : Type 0
-CommitsRise = (p : Plan) (h : List Entry) → IsHistory p h → BeatsClients h → AllNewest (committed_of p h)
+CommitsRise = (p : Plan) (h : List Entry) → IsHistory p h → AllNewest (committed_of p h)
 
 -- What the commits up to a number leave at a path is what all leave there, where none beyond the number edited
 -- it; and so with the closing of a session.
 abbrev pub LaterNumbersLeave : Type 0
 LaterNumbersLeave =
-    (p : Plan) (n : ℕ) (h : List Entry) → IsHistory p h → BeatsClients h
+    (p : Plan) (n : ℕ) (h : List Entry) → IsHistory p h
     → ((q : PathNames) → last_edit p q h ≤ n → (view_after (up_to n (committed_of p h))).node q ≡ (stored_view p h).node q) × ((c : ℕ) → last_of_session c h ≤ n → (view_after (up_to n (committed_of p h))).closed c ≡ (stored_view p h).closed c)
 
 -- Each commit fits what those of lesser numbers leave, whenever they were made.
 abbrev pub CommitFitsAtItsNumber : Type 0
-CommitFitsAtItsNumber = (p : Plan) (n t : ℕ) (h : List Entry) (a : Applied) → IsHistory p h → BeatsClients h → committed_as p t h ≡ Some a → n + 1 ≡ t → Fits (view_after (up_to n (committed_of p h))) a
+CommitFitsAtItsNumber = (p : Plan) (n t : ℕ) (h : List Entry) (a : Applied) → IsHistory p h → committed_as p t h ≡ Some a → n + 1 ≡ t → Fits (view_after (up_to n (committed_of p h))) a
 
 -- A live close removes all that its session owns at its number, and at each beyond it.
 abbrev pub CloseListsAll : Type 0
-CloseListsAll = (p : Plan) (t n : ℕ) (h : List Entry) (y : Pushed) → IsHistory p h → BeatsClients h → IsLive t h → pushed_of p t h ≡ Some y → t ≤ n + 1 → ListsOwned (view_after (up_to n (committed_of p h))) y.session y.request (gone_after y.session (committed_of p h) y.request)
+CloseListsAll = (p : Plan) (t n : ℕ) (h : List Entry) (y : Pushed) → IsHistory p h → IsLive t h → pushed_of p t h ≡ Some y → t ≤ n + 1 → ListsOwned (view_after (up_to n (committed_of p h))) y.session y.request (gone_after y.session (committed_of p h) y.request)
 
 -- A closed session owns no node.
 abbrev pub ClosedSessionOwnsNothing : Type 0
-ClosedSessionOwnsNothing = (p : Plan) (c : ℕ) (h : List Entry) (q : PathNames) → IsHistory p h → BeatsClients h → 1 ≤ c → (stored_view p h).closed c ≡ true → is_owned c ((stored_view p h).node q) ≡ false
+ClosedSessionOwnsNothing = (p : Plan) (c : ℕ) (h : List Entry) (q : PathNames) → IsHistory p h → 1 ≤ c → (stored_view p h).closed c ≡ true → is_owned c ((stored_view p h).node q) ≡ false

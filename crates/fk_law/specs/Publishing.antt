@@ -12,7 +12,6 @@ use Rattle.fk_spec.specs.Promises.{PublishesOnce}
 use Rattle.fk_spec.specs.Published.{published_view}
 use Rattle.fk_spec.specs.PublicLines.{txs_of}
 use Rattle.fk_law.specs.Numbered.{numbered}
-use Rattle.fk_law.specs.Sessions.{BeatsClients}
 
 abbrev pub all_printed : List Applied → List Printed
 all_printed [] = []
@@ -24,9 +23,9 @@ TxsAreTheCommits = (p : Plan) (h : List Entry) → IsHistory p h → txs_of h �
 
 -- Up to the mark, the tree of the transaction lines shows what the commits up to its number leave.
 abbrev pub PublishedTreeIsShown : Type 0
-PublishedTreeIsShown = (p : Plan) (n : ℕ) (h : List Entry) → IsHistory p h → BeatsClients h → n ≤ mark_of h → published_view h n ≡ view_after (up_to n (committed_of p h))
+PublishedTreeIsShown = (p : Plan) (n : ℕ) (h : List Entry) → IsHistory p h → n ≤ mark_of h → published_view h n ≡ view_after (up_to n (committed_of p h))
 
 -- Transaction numbers rise, each request stands in one line at most and each client's in its order, and each
 -- line is its push, applied to the tree of the lines before it.
 abbrev pub EachRequestOnce : Type 0
-EachRequestOnce = (p : Plan) (h : List Entry) → IsHistory p h → BeatsClients h → PublishesOnce p h
+EachRequestOnce = (p : Plan) (h : List Entry) → IsHistory p h → PublishesOnce p h

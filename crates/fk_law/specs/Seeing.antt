@@ -13,17 +13,12 @@ use Rattle.fk_spec.specs.Start.{request_of, seen_with}
 use Rattle.fk_spec.specs.Locks.{last_grant, granted}
 use Rattle.fk_spec.specs.Settling.{settled_of}
 use Rattle.fk_spec.specs.Stored.{stored_view, last_edit}
-use Rattle.fk_spec.specs.Follower.{Follower, Granted, view_of, refusal_number}
+use Rattle.fk_spec.specs.Follower.{Follower, Granted, view_of, refusal_number, paths_of}
 use Rattle.fk_spec.specs.Follower as follower
 use Rattle.fk_spec.specs.Function.{Following, place_of}
 use Rattle.fk_spec.specs.Next.{IsHistory}
 use Rattle.fk_law.specs.Losing.{IsOwn}
 use Rattle.fk_law.specs.Progress.{Works, progress}
-use Rattle.fk_law.specs.Sessions.{BeatsClients}
-
-abbrev pub paths_of : List Granted → List PathNames
-paths_of [] = []
-paths_of (g ∷ gs) = g.path ∷ paths_of gs
 
 -- A follower's records are of the paths that it was granted, in the order of the grants.
 abbrev pub RecordsAreOfItsGrants : Type 0
@@ -42,7 +37,7 @@ AreCurrent p n h (g ∷ gs) = (IsOwn n (last_grant g.path h) → IsCurrent p h g
 -- While a follower is at work, what it has seen of a path is current for as long as no other function is
 -- granted the path.
 abbrev pub ViewIsCurrentWhileTheLockIsOwn : Type 0
-ViewIsCurrentWhileTheLockIsOwn = (p : Plan) (n : ℕ) (h : List Entry) (f : Follower) → IsHistory p h → BeatsClients h → place_of p n h ≡ Following f → progress f.stage ≡ Works → AreCurrent p n h f.granted
+ViewIsCurrentWhileTheLockIsOwn = (p : Plan) (n : ℕ) (h : List Entry) (f : Follower) → IsHistory p h → place_of p n h ≡ Following f → progress f.stage ≡ Works → AreCurrent p n h f.granted
 
 -- the path that a follower of this request locks next, where one is left
 abbrev pub next_lock : Request → Follower → Option PathNames
@@ -77,5 +72,5 @@ GrantsAreTheFirstLockPaths =
 -- A follower that closes has listed each node that its session owns, where its request is the next to settle.
 abbrev pub OwnedListIsComplete : Type 0
 OwnedListIsComplete =
-    (p : Plan) (n : ℕ) (h : List Entry) (f : Follower) (r : Request) (path : PathNames) → IsHistory p h → BeatsClients h → place_of p n h ≡ Following f → request_of p f.session f.k h ≡ Some r → closes r ≡ true → Locks f.stage
+    (p : Plan) (n : ℕ) (h : List Entry) (f : Follower) (r : Request) (path : PathNames) → IsHistory p h → place_of p n h ≡ Following f → request_of p f.session f.k h ≡ Some r → closes r ≡ true → Locks f.stage
     → settled_of f.session h + 1 ≡ f.k → is_owned f.session ((stored_view p h).node path) ≡ true → has_path path f.owned ≡ true

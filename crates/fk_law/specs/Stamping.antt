@@ -10,7 +10,6 @@ use Rattle.fk_spec.specs.Settling.{mark_of, swept_of}
 use Rattle.fk_spec.specs.Stored.{committed_of, committed_as, record_of, stamp_of, up_to}
 use Rattle.fk_spec.specs.Next.{IsHistory}
 use Rattle.fk_spec.specs.Published.{published_view}
-use Rattle.fk_law.specs.Sessions.{BeatsClients}
 
 -- A commit up to the mark: the record of each path that it edited is at least as new.
 abbrev pub PublishedAreStamped : Type 0
@@ -18,7 +17,7 @@ PublishedAreStamped = (p : Plan) (t : ℕ) (h : List Entry) (a : Applied) (q : P
 
 -- A path's record shows the node of each number from its stamp up to the mark.
 abbrev pub RecordIsTheNode : Type 0
-RecordIsTheNode = (p : Plan) (n : ℕ) (h : List Entry) (q : PathNames) → IsHistory p h → BeatsClients h → stamp_of q h ≤ n → n ≤ mark_of h → record_of p q h ≡ (published_view h n).node q
+RecordIsTheNode = (p : Plan) (n : ℕ) (h : List Entry) (q : PathNames) → IsHistory p h → stamp_of q h ≤ n → n ≤ mark_of h → record_of p q h ≡ (published_view h n).node q
 
 -- What the commits up to a number leave is final once a greater one was swept.
 abbrev pub FinalBelowTheSweep : Type 0

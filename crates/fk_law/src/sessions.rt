@@ -1,8 +1,13 @@
-ghost use Rattle.fk_law.specs.Sessions.{FollowsAClient, ScheduledBeatsClients};
+ghost use Rattle.fk_law.specs.Sessions.{DrainsBeginWithClients, DrainsNameClients, FollowsAClient, HeartbeatsAreOfClients};
 
-/// A law: each request is of a client's session, where the heartbeats are; and they are in what a
-/// deployment schedules whose beats name clients.
+/// A law: each heartbeat and each request is of a client's session.
 pub fn follows_a_client()
+    ensures beats { HeartbeatsAreOfClients }
     ensures follows { FollowsAClient }
-    ensures scheduled { ScheduledBeatsClients }
+{}
+
+/// A law: the events of a drain name clients.
+pub fn drains_name_clients()
+    ensures begin { DrainsBeginWithClients }
+    ensures next { DrainsNameClients }
 {}

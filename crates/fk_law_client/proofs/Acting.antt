@@ -221,4 +221,4 @@ event_acts p c h (event.Fail n) e = none_acts p c h (fault_op n (place_of p n h)
 event_acts p c h (event.Clock m) e = tt
 
 pub entry_acts : (p : Plan) (c : ℕ) (e : Entry) (h : List Entry) → IsHistory p (e ∷ h) → client_in e.op ≡ Some c → ActsAt p c h e.op
-entry_acts p c e h l a = let q = ap (λ x. x.op) l.1 in subst (ActsAt p c h) (sym q) (event_acts p c h e.event (ap client_in (sym q) ∙ a))
+entry_acts p c e h l a = let q = ap (λ x. x.op) l.1.0 in subst (ActsAt p c h) (sym q) (event_acts p c h e.event (ap client_in (sym q) ∙ a))

@@ -258,7 +258,7 @@ entry_fits : (p : Plan) (e : Entry) (h : List Entry) → IsHistory p (e ∷ h) �
 entry_fits p e h l = subst (AllFit p) (sym lines) (by_client (client_in e.op) refl)
   where
     lines : e.lines ≡ next_lines p h e.op
-    lines = ap (λ x. x.lines) l.1 ∙ ap (next_lines p h) (sym (ap (λ x. x.op) l.1))
+    lines = ap (λ x. x.lines) l.1.0 ∙ ap (next_lines p h) (sym (ap (λ x. x.op) l.1.0))
 
     by_client : (o : Option ℕ) → client_in e.op ≡ o → AllFit p (next_lines p h e.op)
     by_client None q = none_fit p h e.op q

@@ -266,7 +266,7 @@ other_so : (c : ℕ) (ls b : List Line) (ss : List Sent) (begun : ℕ) → NoneT
 other_so c ls b ss begun n x = record { answered = x.answered; leads = x.leads; earlier = none_earlier c (x.answered + 1) ls b n x.earlier }
 
 lines_are : (p : Plan) (e : Entry) (h : List Entry) → IsHistory p (e ∷ h) → e.lines ≡ next_lines p h e.op
-lines_are p e h l = ap (λ x. x.lines) l.1 ∙ ap (next_lines p h) (sym (ap (λ x. x.op) l.1))
+lines_are p e h l = ap (λ x. x.lines) l.1.0 ∙ ap (next_lines p h) (sym (ap (λ x. x.op) l.1.0))
 
 abbrev After : Plan → ℕ → Entry → List Entry → Option ℕ → List Line → Type 0
 After p c e h k ls = IsOrdered c (client_by p c k h (inbox_of p c h) e.op (client_of p c h)).sent (client_by p c k h (inbox_of p c h) e.op (client_of p c h)).begun (lines_onto ls (lines_of h))

@@ -171,6 +171,6 @@ tail_history p h [] l = l
 tail_history p h (e ∷ more) l = tail_history p h more l.0
 
 pub refusal_holds : RefusalHoldsInLongerHistories
-refusal_holds p n place at cd e h more f r v l b q g a =
+refusal_holds p n place at cd e h more f r v l q g a =
     let k = tail_history p (e ∷ h) more l in
-    refusal_holds_for_ever p n place at cd e h more f r l b q (refusal_pushed p n place at cd h v k.0 (subst (IsDue p h) q (due p e h k))) g a
+    refusal_holds_for_ever p n place at cd e h more f r l q (refusal_pushed p n place at cd h v k.0 (subst (IsDue p h) q (due p e h k))) g a

@@ -244,7 +244,7 @@ seen_step p c e h v l a = omega (arith, grown, up)
     grown = mark_grows (mark_of h) e.op
 
     lines : e.lines ≡ next_lines p h e.op
-    lines = ap (λ x. x.lines) l.1 ∙ ap (next_lines p h) (sym (ap (λ x. x.op) l.1))
+    lines = ap (λ x. x.lines) l.1.0 ∙ ap (next_lines p h) (sym (ap (λ x. x.op) l.1.0))
 
     by_own : (s : ℕ) (b : Bool) → (s == c) ≡ b → client_in e.op ≡ Some s → seen_lines c (client_lines p s h e.op) (seen_by c h) ≤ mark_of h
     by_own s true f q = let g = same_number s c f in subst (λ z. seen_lines c (client_lines p z h e.op) (seen_by c h) ≤ mark_of h) (sym g) (lines_up p c e h v l (q ∙ ap Some g) a)

@@ -250,7 +250,7 @@ entry_kept : (p : Plan) (e : Entry) (h : List Entry) → WritesAreWrites p → I
 entry_kept p e h v l = subst (λ ls. AllKept ls (lines_of h)) (sym lines) (by_client (client_in e.op) refl)
   where
     lines : e.lines ≡ next_lines p h e.op
-    lines = ap (λ x. x.lines) l.1 ∙ ap (next_lines p h) (sym (ap (λ x. x.op) l.1))
+    lines = ap (λ x. x.lines) l.1.0 ∙ ap (next_lines p h) (sym (ap (λ x. x.op) l.1.0))
 
     by_client : (o : Option ℕ) → client_in e.op ≡ o → AllKept (next_lines p h e.op) (lines_of h)
     by_client None q = none_kept p h e.op (lines_of h) q

@@ -14,7 +14,6 @@ use Rattle.fk_spec.specs.Follower.{Follower}
 use Rattle.fk_spec.specs.Function.{Following, place_of}
 use Rattle.fk_spec.specs.Next.{IsHistory}
 use Rattle.fk_law.specs.Due.{IsDue}
-use Rattle.fk_law.specs.Sessions.{BeatsClients}
 use Rattle.fk_law_watch.specs.FirstNumbers.{ReadsAreReads}
 
 -- The mark is at most the number of the last push.
@@ -29,5 +28,5 @@ RefusalNumberWasPushed = (p : Plan) (n place at : ℕ) (code : Code) (h : List E
 -- number leave in every longer history.
 abbrev pub RefusalHoldsInLongerHistories : Type 0
 RefusalHoldsInLongerHistories =
-    (p : Plan) (n place at : ℕ) (code : Code) (e : Entry) (h more : List Entry) (f : Follower) (r : Request) → ReadsAreReads p → IsHistory p (more ++ e ∷ h) → BeatsClients (more ++ e ∷ h) → e.op ≡ op.RefuseOk n code place at → place_of p n h ≡ Following f → request_of p f.session f.k h ≡ Some r
+    (p : Plan) (n place at : ℕ) (code : Code) (e : Entry) (h more : List Entry) (f : Follower) (r : Request) → ReadsAreReads p → IsHistory p (more ++ e ∷ h) → e.op ≡ op.RefuseOk n code place at → place_of p n h ≡ Following f → request_of p f.session f.k h ≡ Some r
     → check (view_after (up_to at (committed_of p (more ++ e ∷ h)))) f.session r ≡ Some (record { code = code; place = place })

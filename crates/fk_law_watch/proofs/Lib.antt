@@ -1,3 +1,4 @@
+pub mod Counting
 pub mod Epochs
 pub mod FirstNumbers
 pub mod Handing

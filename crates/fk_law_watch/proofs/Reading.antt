@@ -190,7 +190,7 @@ event_acts p c h (event.Fail n) k e = no_client_acts (client_of p c h) (seen_by 
 event_acts p c h (event.Clock m) k e = tt
 
 entry_acts : (p : Plan) (c : ℕ) (e : Entry) (h : List Entry) → ReadsAreReads p → IsHistory p (e ∷ h) → client_in e.op ≡ Some c → ActsAs (client_of p c h) (seen_by c h) (mark_of h) e.op
-entry_acts p c e h k l a = let q = ap (λ x. x.op) l.1 in subst (ActsAs (client_of p c h) (seen_by c h) (mark_of h)) (sym q) (event_acts p c h e.event k (ap client_in (sym q) ∙ a))
+entry_acts p c e h k l a = let q = ap (λ x. x.op) l.1.0 in subst (ActsAs (client_of p c h) (seen_by c h) (mark_of h)) (sym q) (event_acts p c h e.event k (ap client_in (sym q) ∙ a))
 
 -- What a line shows to other clients. ------------------------------------------------------------------
 
@@ -351,7 +351,7 @@ reads_so p c [] k l = tt
 reads_so p c (e ∷ h) k l = subst (λ ls. After p c h e.op ls (client_in e.op)) (sym lines) (read_step p c h e.op (entry_acts p c e h k l) (reads_so p c h k l.0))
   where
     lines : e.lines ≡ next_lines p h e.op
-    lines = ap (λ x. x.lines) l.1 ∙ ap (next_lines p h) (sym (ap (λ x. x.op) l.1))
+    lines = ap (λ x. x.lines) l.1.0 ∙ ap (next_lines p h) (sym (ap (λ x. x.op) l.1.0))
 
 pub watches_are_set_up_to_the_mark : WatchesAreSetUpToTheMark
 watches_are_set_up_to_the_mark p c i id e h k l q = by_read (client_of p c h).reading refl

@@ -227,4 +227,4 @@ event_registers p h (event.FailClient c) = failed_registers p h (client_op p c h
 event_registers p h (event.Clock moment) = tt
 
 pub watches_are_registered : WatchesAreRegistered
-watches_are_registered p e h l = subst (Registers p h) (sym (ap (λ x. x.op) l.1)) (event_registers p h e.event)
+watches_are_registered p e h l = subst (Registers p h) (sym (ap (λ x. x.op) l.1.0)) (event_registers p h e.event)

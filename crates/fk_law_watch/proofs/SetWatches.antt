@@ -3,6 +3,7 @@ use Rattle.std.specs.Prelude.{◌==◌, ◌||◌, ◌&&◌, nat_le, if◌then◌
 use Rattle.std.proofs.Common.{◌≡◌, ℕ, ◌+◌, ◌<◌, ◌≤◌, ◌++◌, ◌⊎◌, inl, inr, Bool, true, false, List, [], ◌∷◌, refl, sym, ◌∙◌, ap, subst, arith, Option, Some, None}
 use Rattle.std.proofs.lemmas.Bool.{false≢true}
 use Rattle.std.proofs.lemmas.Bool.Decides.{nat_tests}
+use Rattle.std.proofs.Math.Nat.{max-le}
 use Rattle.fk_base.specs.Path.{PathNames}
 use Rattle.fk_tree.specs.Watch.{first_taken, has_touch}
 use Rattle.fk_tree.specs.declared.change.Change.{Change}
@@ -21,6 +22,7 @@ use Rattle.fk_law.specs.Due.{IsDue}
 use Rattle.fk_law.specs.LeaderLane.{sweeps, is_swept}
 use Rattle.fk_law.proofs.Due.{due}
 use Rattle.fk_law.proofs.Leading.{swept_are_committed}
+use Rattle.fk_law_watch.specs.Counts.{GivenAreBounded}
 use Rattle.fk_law_watch.specs.Registering.{number_of_read, IsRegistration, Registers}
 use Rattle.fk_law_watch.specs.SetWatches.{watch_with, set_watch, registered_in, first_of, taken_of, IsOneOfTwo, WatchIsSetOrFired, SetOrFiredWereGiven, FiresOnce, FiringNeverChanges, SetWatchesDiffer, SawNoChange, SetWatchSawNoChange, FiredAtItsFirst, FiredWatchFiredAtItsFirstChange}
 use Rattle.fk_law_watch.proofs.Listing.{AreUnique, AreApart, has_is, not_fired_has, not_fired_unique, append_unique, append_with, kept_watch, stays_set, fired_one, fires_none, fires_watch, IsFiredOf, fired_of, not_fired_apart, append_apart, set_number_has, same_differ, is_false}
@@ -352,3 +354,20 @@ set_watch_saw_no_change p id h w l e = (sound p h l).set id w e
 
 pub fired_watch_fired_at_its_first_change : FiredWatchFiredAtItsFirstChange
 fired_watch_fired_at_its_first_change p id h f l e = (sound p h l).fired id f e
+
+-- ---- how many numbers were given
+
+given_step : (p : Plan) (h : List Entry) (o : Op) → IsHistory p h → Registers p h o → given_in o (given_of h) ≤ given_of h + 1
+given_step p h (op.WatchSet c i j) l r = elim (set_cases p h c i j r) [ inl x ↦ old x.0 | inr y ↦ new y.next ]
+  where
+    old : has_id j (set_watches p h) ≡ true → max j (given_of h) ≤ given_of h + 1
+    old a = let b = set_or_fired_were_given p j h l (inl (sym (has_is j (set_watches p h)) ∙ a)) in max-le (omega (arith, b.1)) (omega arith)
+
+    new : r.watch.id ≡ given_of h + 1 → max j (given_of h) ≤ given_of h + 1
+    new e = max-le (omega (arith, e, r.its_id)) (omega arith)
+given_step p h o l r = omega arith
+
+-- at most one at each line
+pub given_are_bounded : GivenAreBounded
+given_are_bounded p [] l = omega arith
+given_are_bounded p (e ∷ h) l = omega (arith, given_step p h e.op l.0 (watches_are_registered p e h l), given_are_bounded p h l.0)

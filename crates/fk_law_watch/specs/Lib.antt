@@ -1,3 +1,4 @@
+pub mod Counts
 pub mod Epochs
 pub mod FirstNumbers
 pub mod Noting

@@ -3,6 +3,7 @@
 #![tactic(auto)]
 
 mod announcements;
+mod counts;
 mod epochs_of_watches;
 mod last_sweeps;
 mod number_of_registration;
@@ -14,6 +15,7 @@ pub use announcements::{
     announced_has_fired, announced_in_number_order, notes_first_stand_in_order,
     removed_note_is_told, told_push_is_announced,
 };
+pub use counts::counts_are_bounded;
 pub use epochs_of_watches::{
     epoch_has_fired, leader_holds_a_complete_epoch, untold_fired_watch_is_in_the_epoch,
 };

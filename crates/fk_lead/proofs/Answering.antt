@@ -29,7 +29,8 @@ use Rattle.fk_spec.specs.Follower.{ack_op, commit_locked}
 use Rattle.fk_settle.specs.Held.{Passed, first_passed}
 use Rattle.fk_settle.specs.Verdicts.{verdict_of, verdict_on}
 use Rattle.fk_settle.specs.declared.settling.Verdict.TheVariants as verdict
-use Rattle.fk_lead.specs.Operation.{commit_op, done_op, drop_op, or_fault, passed_as, publish_op, put_op}
+use Rattle.fk_spec.specs.Failing.{or_fault}
+use Rattle.fk_lead.specs.Operation.{commit_op, done_op, drop_op, passed_as, publish_op, put_op}
 use Rattle.fk_lead.specs.Said.{ack_by, commit_by, done_by, drop_by, finish_of, publish_by, put_by}
 use Rattle.fk_lead.specs.Services.{finish_conds, published_at, put_at}
 use Rattle.fk_lead.specs.declared.finishing.Finish.{Finish}

@@ -20,7 +20,8 @@ use Rattle.fk_watch.specs.declared.answer.Sweep.TheVariants as sweep
 use Rattle.fk_watch.specs.declared.watch.Firing.{Firing}
 use Rattle.fk_lead.specs.Meaning.{Meaning, Swept}
 use Rattle.fk_lead.specs.Next.{next_with}
-use Rattle.fk_lead.specs.Operation.{or_fault, sweep_op}
+use Rattle.fk_spec.specs.Failing.{or_fault}
+use Rattle.fk_lead.specs.Operation.{sweep_op}
 use Rattle.fk_lead.specs.Said.{sweep_by, swept_by}
 use Rattle.fk_lead.specs.Sweeping.{AreSwept, IsSweepOf, swept_at}
 

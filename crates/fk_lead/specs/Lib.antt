@@ -3,6 +3,7 @@ pub mod Meaning
 pub mod Next
 pub mod Operation
 pub mod Said
+pub mod Sending
 pub mod Services
 pub mod Standing
 pub mod Sweeping

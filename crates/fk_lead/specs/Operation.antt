@@ -4,7 +4,6 @@ use Rattle.fk_base.specs.Path.{PathNames}
 use Rattle.fk_tree.specs.Sorted.{in_path_order}
 use Rattle.fk_print.specs.declared.op.Op.{Op}
 use Rattle.fk_print.specs.declared.op.Op.TheVariants as op
-use Rattle.fk_print.specs.declared.op.Word.{Word}
 use Rattle.fk_queue.specs.Letters.{head_number}
 use Rattle.fk_queue.specs.Meaning as post
 use Rattle.fk_queue.specs.declared.lane.Lane.TheVariants as lane
@@ -15,6 +14,7 @@ use Rattle.fk_watch.specs.Meaning.{Watches}
 use Rattle.fk_wire.specs.declared.fired.Fired.{Fired}
 use Rattle.fk_wire.specs.declared.message.Pushed.{Pushed}
 use Rattle.fk_spec.specs.Follower.{ack_op, commit_locked}
+use Rattle.fk_spec.specs.Failing.{or_fault}
 use Rattle.fk_spec.specs.Function.{leader_word}
 use Rattle.fk_spec.specs.Leader.{Stage}
 use Rattle.fk_spec.specs.Leader as stage
@@ -87,9 +87,6 @@ is_armed t q w u stage.Reply = q.armed
 is_armed t q w u stage.Done = t.armed
 is_armed t q w u stage.Ack = q.armed
 is_armed t q w u stage.Ended = false
-
-abbrev pub or_fault : Bool → ℕ → Word → Op → Op
-or_fault armed n word o = if armed then op.Fault n word else o
 
 -- The operation that a leader makes on these services.
 abbrev pub step_op : table.Meaning → post.Meaning → Watches → user.Meaning → Swept → Meaning → Op

@@ -6,7 +6,7 @@ use Rattle.fk_tree.specs.declared.request.Request.{Request}
 use Rattle.fk_tree.specs.declared.request.Request.TheVariants as request
 use Rattle.fk_queue.specs.Answers.{ack_of, after_ack}
 use Rattle.fk_queue.specs.Meaning as post
-use Rattle.fk_queue.specs.declared.lane.Lane.{Lane}
+use Rattle.fk_queue.specs.Meaning.{posted}
 use Rattle.fk_queue.specs.declared.lane.Lane.TheVariants as lane
 use Rattle.fk_store.specs.Meaning as table
 use Rattle.fk_store.specs.declared.cond.Cond.{Cond}
@@ -76,10 +76,6 @@ done_tell k tx x = tell.Done k tx x.name x.version x.made
 -- the client is told that it was evicted, or that its request is done
 abbrev pub reply_tell : ℕ → Pushed → Tell
 reply_tell tx x = if is_evict x.request then tell.Evicted x.k tx else done_tell x.k tx x
-
--- the post after a push that doesn't want memory
-abbrev pub posted : Lane → List ℕ → post.Meaning → post.Meaning
-posted l bytes q = if q.armed then post.called q else post.pushed l bytes q
 
 abbrev pub stage_post : post.Meaning → Meaning → Stage → post.Meaning
 stage_post q m stage.Commit = q

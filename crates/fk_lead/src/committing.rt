@@ -7,7 +7,8 @@ ghost use Rattle.fk_store.specs.Meaning.{called};
 ghost use Rattle.fk_settle.specs.Transaction.{committed};
 ghost use Rattle.fk_lead.specs.Meaning.{Swept};
 ghost use Rattle.fk_lead.specs.Next.{next_with};
-ghost use Rattle.fk_lead.specs.Operation.{commit_op, is_pending, or_fault, pending_op};
+ghost use Rattle.fk_spec.specs.Failing.{or_fault};
+ghost use Rattle.fk_lead.specs.Operation.{commit_op, is_pending, pending_op};
 ghost use Rattle.fk_lead.specs.Said.{commit_by};
 ghost use Rattle.fk_lead.specs.Standing.{leader_of};
 

@@ -6,6 +6,7 @@
 mod committing;
 mod finishing;
 mod leader;
+mod printing;
 mod publishing;
 mod state;
 mod stepping;

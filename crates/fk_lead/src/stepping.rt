@@ -6,6 +6,7 @@ ghost use Rattle.fk_lead.specs.Fit.{IsFit};
 ghost use Rattle.fk_lead.specs.Meaning.{Swept};
 ghost use Rattle.fk_lead.specs.Next.{after_step};
 ghost use Rattle.fk_lead.specs.Operation.{step_op};
+ghost use Rattle.fk_lead.specs.Sending.{IsReadable};
 ghost use Rattle.fk_lead.specs.Services.{post_after_step, table_after_step, user_after_step, watches_after_step};
 ghost use Rattle.fk_lead.specs.Standing.{leader_of};
 ghost use Rattle.fk_lead.specs.Sweeping.{IsGiven};
@@ -36,6 +37,7 @@ impl Leader {
         ensures given { OnOk result (IsGiven (watches_of watches.old) (leader_of self.old) (leader_of self.new).swept) }
         ensures table { OnOk result (T.meaning table.new ≡ table_after_step (T.meaning table.old) (leader_of self.old)) }
         ensures post { OnOk result (post_of post.new ≡ post_after_step (post_of post.old) (leader_of self.old)) }
+        ensures sent { OnOk result (IsReadable (leader_of self.old)) }
         ensures watches { OnOk result (watches_of watches.new ≡ watches_after_step (watches_of watches.old) (leader_of self.old)) }
         ensures user { OnOk result (store_of user.new ≡ user_after_step (store_of user.old) (leader_of self.old)) }
     {

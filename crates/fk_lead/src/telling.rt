@@ -12,13 +12,15 @@ ghost use Rattle.fk_spec.specs.Follower.{ack_op};
 ghost use Rattle.fk_wire.specs.Fired.{AreLimitedFired};
 ghost use Rattle.fk_wire.specs.Limits.{IsNumber};
 ghost use Rattle.fk_wire.specs.NoteText.{note_text};
+ghost use Rattle.fk_wire.specs.Readable.{IsNoteReadable, IsTellReadable};
 ghost use Rattle.fk_wire.specs.TellText.{tell_text};
 ghost use Rattle.fk_wire.specs.declared.version.Version.TheVariants as version;
 ghost use Rattle.fk_lead.specs.Meaning.{Swept};
 ghost use Rattle.fk_lead.specs.Next.{next_with};
-ghost use Rattle.fk_lead.specs.Operation.{or_fault};
+ghost use Rattle.fk_spec.specs.Failing.{or_fault};
 ghost use Rattle.fk_lead.specs.Said.{ack_by};
-ghost use Rattle.fk_lead.specs.Services.{is_evict, note_of, posted, reply_tell};
+ghost use Rattle.fk_queue.specs.Meaning.{posted};
+ghost use Rattle.fk_lead.specs.Services.{is_evict, note_of, reply_tell};
 ghost use Rattle.fk_lead.specs.Standing.{leader_of};
 
 use crate::leader::Leader;
@@ -65,6 +67,7 @@ impl Leader {
         ensures op { IfOk result (λ o. o ≡ or_fault (post_of post.old).armed self.old.inv word.Notify (op.Notify self.old.inv self.old.tx (((post_of post.old).lanes lane.Watch).given + 1))) }
         ensures leader { (s : Swept) → OnOk result (leader_of self.new ≡ next_with s (or_fault (post_of post.old).armed self.old.inv word.Notify (op.Notify self.old.inv self.old.tx (((post_of post.old).lanes lane.Watch).given + 1))) (leader_of self.old)) }
         ensures post { OnOk result (post_of post.new ≡ posted lane.Watch (note_text version.Two (note_of (leader_of self.old))) (post_of post.old)) }
+        ensures sent { OnOk result (IsNoteReadable (note_of (leader_of self.old))) }
     {
         let note = Note {
             tx: self.tx,
@@ -95,6 +98,7 @@ impl Leader {
         ensures op { IfOk result (λ o. o ≡ or_fault (post_of post.old).armed self.old.inv word.Reply (op.Reply self.old.inv self.old.message.session self.old.message.k)) }
         ensures leader { (s : Swept) → OnOk result (leader_of self.new ≡ next_with s (or_fault (post_of post.old).armed self.old.inv word.Reply (op.Reply self.old.inv self.old.message.session self.old.message.k)) (leader_of self.old)) }
         ensures post { OnOk result (post_of post.new ≡ posted (lane.Inbox self.old.message.session) (tell_text version.Two (reply_tell self.old.tx self.old.message)) (post_of post.old)) }
+        ensures sent { OnOk result (IsTellReadable (reply_tell self.old.tx self.old.message)) }
     {
         let tell = reply_tell(self.tx, &self.message)?;
         let text = encode_tell(self.alloc, &tell)?;

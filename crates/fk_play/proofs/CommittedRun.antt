@@ -92,7 +92,7 @@ promises21 lock beat now wait n bytes = record {
 }
 
 lawful : (lock beat now : ℕ) (wait : Bool) (n : Name) (bytes : List ℕ) → IsLawful (course.plan lock beat wait n bytes) (course.after21 now n bytes)
-lawful lock beat now wait n bytes = (((((((((((((((((((((tt, course.follows1 lock beat now wait n bytes, promises1 lock beat now wait n bytes), course.follows2 lock beat now wait n bytes, promises2 lock beat now wait n bytes), course.follows3 lock beat now wait n bytes, promises3 lock beat now wait n bytes), course.follows4 lock beat now wait n bytes, promises4 lock beat now wait n bytes), course.follows5 lock beat now wait n bytes, promises5 lock beat now wait n bytes), course.follows6 lock beat now wait n bytes, promises6 lock beat now wait n bytes), course.follows7 lock beat now wait n bytes, promises7 lock beat now wait n bytes), course.follows8 lock beat now wait n bytes, promises8 lock beat now wait n bytes), course.follows9 lock beat now wait n bytes, promises9 lock beat now wait n bytes), course.follows10 lock beat now wait n bytes, promises10 lock beat now wait n bytes), course.follows11 lock beat now wait n bytes, promises11 lock beat now wait n bytes), course.follows12 lock beat now wait n bytes, promises12 lock beat now wait n bytes), course.follows13 lock beat now wait n bytes, promises13 lock beat now wait n bytes), course.follows14 lock beat now wait n bytes, promises14 lock beat now wait n bytes), course.follows15 lock beat now wait n bytes, promises15 lock beat now wait n bytes), course.follows16 lock beat now wait n bytes, promises16 lock beat now wait n bytes), course.follows17 lock beat now wait n bytes, promises17 lock beat now wait n bytes), course.follows18 lock beat now wait n bytes, promises18 lock beat now wait n bytes), course.follows19 lock beat now wait n bytes, promises19 lock beat now wait n bytes), course.follows20 lock beat now wait n bytes, promises20 lock beat now wait n bytes), course.follows21 lock beat now wait n bytes, promises21 lock beat now wait n bytes)
+lawful lock beat now wait n bytes = (((((((((((((((((((((tt, (course.follows1 lock beat now wait n bytes, refl), promises1 lock beat now wait n bytes), (course.follows2 lock beat now wait n bytes, refl), promises2 lock beat now wait n bytes), (course.follows3 lock beat now wait n bytes, refl), promises3 lock beat now wait n bytes), (course.follows4 lock beat now wait n bytes, refl), promises4 lock beat now wait n bytes), (course.follows5 lock beat now wait n bytes, refl), promises5 lock beat now wait n bytes), (course.follows6 lock beat now wait n bytes, refl), promises6 lock beat now wait n bytes), (course.follows7 lock beat now wait n bytes, refl), promises7 lock beat now wait n bytes), (course.follows8 lock beat now wait n bytes, refl), promises8 lock beat now wait n bytes), (course.follows9 lock beat now wait n bytes, refl), promises9 lock beat now wait n bytes), (course.follows10 lock beat now wait n bytes, refl), promises10 lock beat now wait n bytes), (course.follows11 lock beat now wait n bytes, refl), promises11 lock beat now wait n bytes), (course.follows12 lock beat now wait n bytes, refl), promises12 lock beat now wait n bytes), (course.follows13 lock beat now wait n bytes, refl), promises13 lock beat now wait n bytes), (course.follows14 lock beat now wait n bytes, refl), promises14 lock beat now wait n bytes), (course.follows15 lock beat now wait n bytes, refl), promises15 lock beat now wait n bytes), (course.follows16 lock beat now wait n bytes, refl), promises16 lock beat now wait n bytes), (course.follows17 lock beat now wait n bytes, refl), promises17 lock beat now wait n bytes), (course.follows18 lock beat now wait n bytes, refl), promises18 lock beat now wait n bytes), (course.follows19 lock beat now wait n bytes, refl), promises19 lock beat now wait n bytes), (course.follows20 lock beat now wait n bytes, refl), promises20 lock beat now wait n bytes), (course.follows21 lock beat now wait n bytes, refl), promises21 lock beat now wait n bytes)
 
 empties : (lock beat now : ℕ) (wait : Bool) (n : Name) (bytes : List ℕ) → Empties (course.plan lock beat wait n bytes) (course.after1 now n bytes) (course.after21 now n bytes)
 empties lock beat now wait n bytes = Goes (course.after1 now n bytes) (course.after21 now n bytes) _ (course.drains1 lock beat now wait n bytes) (Goes (course.after2 now n bytes) (course.after21 now n bytes) _ (course.drains2 lock beat now wait n bytes) (Goes (course.after3 now n bytes) (course.after21 now n bytes) _ (course.drains3 lock beat now wait n bytes) (Goes (course.after4 now n bytes) (course.after21 now n bytes) _ (course.drains4 lock beat now wait n bytes) (Goes (course.after5 now n bytes) (course.after21 now n bytes) _ (course.drains5 lock beat now wait n bytes) (Goes (course.after6 now n bytes) (course.after21 now n bytes) _ (course.drains6 lock beat now wait n bytes) (Goes (course.after7 now n bytes) (course.after21 now n bytes) _ (course.drains7 lock beat now wait n bytes) (Goes (course.after8 now n bytes) (course.after21 now n bytes) _ (course.drains8 lock beat now wait n bytes) (Goes (course.after9 now n bytes) (course.after21 now n bytes) _ (course.drains9 lock beat now wait n bytes) (Goes (course.after10 now n bytes) (course.after21 now n bytes) _ (course.drains10 lock beat now wait n bytes) (Goes (course.after11 now n bytes) (course.after21 now n bytes) _ (course.drains11 lock beat now wait n bytes) (Goes (course.after12 now n bytes) (course.after21 now n bytes) _ (course.drains12 lock beat now wait n bytes) (Goes (course.after13 now n bytes) (course.after21 now n bytes) _ (course.drains13 lock beat now wait n bytes) (Goes (course.after14 now n bytes) (course.after21 now n bytes) _ (course.drains14 lock beat now wait n bytes) (Goes (course.after15 now n bytes) (course.after21 now n bytes) _ (course.drains15 lock beat now wait n bytes) (Goes (course.after16 now n bytes) (course.after21 now n bytes) _ (course.drains16 lock beat now wait n bytes) (Goes (course.after17 now n bytes) (course.after21 now n bytes) _ (course.drains17 lock beat now wait n bytes) (Goes (course.after18 now n bytes) (course.after21 now n bytes) _ (course.drains18 lock beat now wait n bytes) (Goes (course.after19 now n bytes) (course.after21 now n bytes) _ (course.drains19 lock beat now wait n bytes) (Goes (course.after20 now n bytes) (course.after21 now n bytes) _ (course.drains20 lock beat now wait n bytes) (Emptied (course.after21 now n bytes) (course.drained lock beat now wait n bytes)))))))))))))))))))))

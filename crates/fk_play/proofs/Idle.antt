@@ -40,7 +40,7 @@ promises1 : (lock beat now : ℕ) (wait client : Bool) → Promises (plan lock b
 promises1 lock beat now wait client = record { once = tt; replies = tt; view = tt; notices = tt; watches = tt; refusals = silent_refusals (plan lock beat wait client) (after1 now) (after1 now) refl }
 
 lawful : (lock beat now : ℕ) (wait client : Bool) → IsLawful (plan lock beat wait client) (after1 now)
-lawful lock beat now wait client = (tt, follows1 lock beat now wait client, promises1 lock beat now wait client)
+lawful lock beat now wait client = (tt, (follows1 lock beat now wait client, refl), promises1 lock beat now wait client)
 
 drains : (lock beat now : ℕ) (wait client : Bool) → now ≡ lock + 1 → Drains (plan lock beat wait client) [] (after1 now)
 drains lock beat now wait client l = record { begun = after1 now; begins = (_, drain_moment lock now l, refl); empties = Emptied (after1 now) (drained lock beat now wait client) }

@@ -62,7 +62,7 @@ promises11 lock beat now wait n m q bytes = record {
 }
 
 lawful : (lock beat now : ℕ) (wait : Bool) (n m : Name) (q : PathNames) (bytes : List ℕ) → IsLawful (course.plan lock beat wait n m q bytes) (course.after11 now n m q bytes)
-lawful lock beat now wait n m q bytes = (((((((((((tt, course.follows1 lock beat now wait n m q bytes, promises1 lock beat now wait n m q bytes), course.follows2 lock beat now wait n m q bytes, promises2 lock beat now wait n m q bytes), course.follows3 lock beat now wait n m q bytes, promises3 lock beat now wait n m q bytes), course.follows4 lock beat now wait n m q bytes, promises4 lock beat now wait n m q bytes), course.follows5 lock beat now wait n m q bytes, promises5 lock beat now wait n m q bytes), course.follows6 lock beat now wait n m q bytes, promises6 lock beat now wait n m q bytes), course.follows7 lock beat now wait n m q bytes, promises7 lock beat now wait n m q bytes), course.follows8 lock beat now wait n m q bytes, promises8 lock beat now wait n m q bytes), course.follows9 lock beat now wait n m q bytes, promises9 lock beat now wait n m q bytes), course.follows10 lock beat now wait n m q bytes, promises10 lock beat now wait n m q bytes), course.follows11 lock beat now wait n m q bytes, promises11 lock beat now wait n m q bytes)
+lawful lock beat now wait n m q bytes = (((((((((((tt, (course.follows1 lock beat now wait n m q bytes, refl), promises1 lock beat now wait n m q bytes), (course.follows2 lock beat now wait n m q bytes, refl), promises2 lock beat now wait n m q bytes), (course.follows3 lock beat now wait n m q bytes, refl), promises3 lock beat now wait n m q bytes), (course.follows4 lock beat now wait n m q bytes, refl), promises4 lock beat now wait n m q bytes), (course.follows5 lock beat now wait n m q bytes, refl), promises5 lock beat now wait n m q bytes), (course.follows6 lock beat now wait n m q bytes, refl), promises6 lock beat now wait n m q bytes), (course.follows7 lock beat now wait n m q bytes, refl), promises7 lock beat now wait n m q bytes), (course.follows8 lock beat now wait n m q bytes, refl), promises8 lock beat now wait n m q bytes), (course.follows9 lock beat now wait n m q bytes, refl), promises9 lock beat now wait n m q bytes), (course.follows10 lock beat now wait n m q bytes, refl), promises10 lock beat now wait n m q bytes), (course.follows11 lock beat now wait n m q bytes, refl), promises11 lock beat now wait n m q bytes)
 
 empties : (lock beat now : ℕ) (wait : Bool) (n m : Name) (q : PathNames) (bytes : List ℕ) → Empties (course.plan lock beat wait n m q bytes) (course.after1 now n m q bytes) (course.after11 now n m q bytes)
 empties lock beat now wait n m q bytes = Goes (course.after1 now n m q bytes) (course.after11 now n m q bytes) _ (course.drains1 lock beat now wait n m q bytes) (Goes (course.after2 now n m q bytes) (course.after11 now n m q bytes) _ (course.drains2 lock beat now wait n m q bytes) (Goes (course.after3 now n m q bytes) (course.after11 now n m q bytes) _ (course.drains3 lock beat now wait n m q bytes) (Goes (course.after4 now n m q bytes) (course.after11 now n m q bytes) _ (course.drains4 lock beat now wait n m q bytes) (Goes (course.after5 now n m q bytes) (course.after11 now n m q bytes) _ (course.drains5 lock beat now wait n m q bytes) (Goes (course.after6 now n m q bytes) (course.after11 now n m q bytes) _ (course.drains6 lock beat now wait n m q bytes) (Goes (course.after7 now n m q bytes) (course.after11 now n m q bytes) _ (course.drains7 lock beat now wait n m q bytes) (Goes (course.after8 now n m q bytes) (course.after11 now n m q bytes) _ (course.drains8 lock beat now wait n m q bytes) (Goes (course.after9 now n m q bytes) (course.after11 now n m q bytes) _ (course.drains9 lock beat now wait n m q bytes) (Goes (course.after10 now n m q bytes) (course.after11 now n m q bytes) _ (course.drains10 lock beat now wait n m q bytes) (Emptied (course.after11 now n m q bytes) (course.drained lock beat now wait n m q bytes)))))))))))

@@ -47,7 +47,7 @@ promises10 lock beat now wait bytes = record {
 }
 
 lawful : (lock beat now : ℕ) (wait : Bool) (bytes : List ℕ) → IsLawful (course.plan lock beat wait bytes) (course.after10 now bytes)
-lawful lock beat now wait bytes = ((((((((((tt, course.follows1 lock beat now wait bytes, promises1 lock beat now wait bytes), course.follows2 lock beat now wait bytes, promises2 lock beat now wait bytes), course.follows3 lock beat now wait bytes, promises3 lock beat now wait bytes), course.follows4 lock beat now wait bytes, promises4 lock beat now wait bytes), course.follows5 lock beat now wait bytes, promises5 lock beat now wait bytes), course.follows6 lock beat now wait bytes, promises6 lock beat now wait bytes), course.follows7 lock beat now wait bytes, promises7 lock beat now wait bytes), course.follows8 lock beat now wait bytes, promises8 lock beat now wait bytes), course.follows9 lock beat now wait bytes, promises9 lock beat now wait bytes), course.follows10 lock beat now wait bytes, promises10 lock beat now wait bytes)
+lawful lock beat now wait bytes = ((((((((((tt, (course.follows1 lock beat now wait bytes, refl), promises1 lock beat now wait bytes), (course.follows2 lock beat now wait bytes, refl), promises2 lock beat now wait bytes), (course.follows3 lock beat now wait bytes, refl), promises3 lock beat now wait bytes), (course.follows4 lock beat now wait bytes, refl), promises4 lock beat now wait bytes), (course.follows5 lock beat now wait bytes, refl), promises5 lock beat now wait bytes), (course.follows6 lock beat now wait bytes, refl), promises6 lock beat now wait bytes), (course.follows7 lock beat now wait bytes, refl), promises7 lock beat now wait bytes), (course.follows8 lock beat now wait bytes, refl), promises8 lock beat now wait bytes), (course.follows9 lock beat now wait bytes, refl), promises9 lock beat now wait bytes), (course.follows10 lock beat now wait bytes, refl), promises10 lock beat now wait bytes)
 
 empties : (lock beat now : ℕ) (wait : Bool) (bytes : List ℕ) → Empties (course.plan lock beat wait bytes) (course.after1 now bytes) (course.after10 now bytes)
 empties lock beat now wait bytes = Goes (course.after1 now bytes) (course.after10 now bytes) _ (course.drains1 lock beat now wait bytes) (Goes (course.after2 now bytes) (course.after10 now bytes) _ (course.drains2 lock beat now wait bytes) (Goes (course.after3 now bytes) (course.after10 now bytes) _ (course.drains3 lock beat now wait bytes) (Goes (course.after4 now bytes) (course.after10 now bytes) _ (course.drains4 lock beat now wait bytes) (Goes (course.after5 now bytes) (course.after10 now bytes) _ (course.drains5 lock beat now wait bytes) (Goes (course.after6 now bytes) (course.after10 now bytes) _ (course.drains6 lock beat now wait bytes) (Goes (course.after7 now bytes) (course.after10 now bytes) _ (course.drains7 lock beat now wait bytes) (Goes (course.after8 now bytes) (course.after10 now bytes) _ (course.drains8 lock beat now wait bytes) (Goes (course.after9 now bytes) (course.after10 now bytes) _ (course.drains9 lock beat now wait bytes) (Emptied (course.after10 now bytes) (course.drained lock beat now wait bytes))))))))))

@@ -23,7 +23,7 @@ promises2 lock beat now wait = record {
 }
 
 lawful : (lock beat now : ℕ) (wait : Bool) → IsLawful (course.plan lock beat wait) (course.after2 now)
-lawful lock beat now wait = ((tt, course.follows1 lock beat now wait, promises1 lock beat now wait), course.follows2 lock beat now wait, promises2 lock beat now wait)
+lawful lock beat now wait = ((tt, (course.follows1 lock beat now wait, refl), promises1 lock beat now wait), (course.follows2 lock beat now wait, refl), promises2 lock beat now wait)
 
 empties : (lock beat now : ℕ) (wait : Bool) → Empties (course.plan lock beat wait) (course.after1 now) (course.after2 now)
 empties lock beat now wait = Goes (course.after1 now) (course.after2 now) _ (course.drains1 lock beat now wait) (Emptied (course.after2 now) (course.drained lock beat now wait))

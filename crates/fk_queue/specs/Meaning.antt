@@ -46,6 +46,10 @@ calmed m = record m { armed = false }
 abbrev pub called : Meaning → Meaning
 called m = record m { armed = false; faults = if m.armed then one_more m.faults else m.faults }
 
+-- the post after a push that doesn't want memory
+abbrev pub posted : Lane → List ℕ → Meaning → Meaning
+posted l bytes m = if m.armed then called m else pushed l bytes m
+
 -- the sum of f 1 up to f n
 abbrev pub sum_to : ℕ → (ℕ → ℕ) → ℕ
 sum_to zero f = 0

@@ -50,6 +50,11 @@ pub record Follower : Type 0 where
   pub granted : List Granted
   pub stage : Stage
 
+-- the paths of granted records, in the order of the grants
+abbrev pub paths_of : List Granted → List PathNames
+paths_of [] = []
+paths_of (g ∷ gs) = g.path ∷ paths_of gs
+
 abbrev pub begin : ℕ → ℕ → Follower
 begin session k = record { session = session; k = k; last = 0; owned = []; granted = []; stage = Session }
 

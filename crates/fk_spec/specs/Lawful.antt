@@ -1,9 +1,9 @@
 -- A lawful history: each entry follows those before it, and each prefix keeps every promise.
-use Rattle.std.specs.Prelude.{◌≡◌, List, [], ◌∷◌}
+use Rattle.std.specs.Prelude.{List, [], ◌∷◌}
 use Rattle.fk_print.specs.declared.entry.Entry.{Entry}
 use Rattle.fk_script.specs.declared.deployment.Deployment.{Deployment}
 use Rattle.fk_spec.specs.Plan.{Plan, plan_of}
-use Rattle.fk_spec.specs.Next.{next_entry}
+use Rattle.fk_spec.specs.Next.{IsNext}
 use Rattle.fk_spec.specs.Promises.{PublishesOnce, RepliesFit, ViewNeverFalls, NotificationsFit, NoReadPassesAWatch}
 use Rattle.fk_spec.specs.Refusals.{RefusalsFit}
 
@@ -18,7 +18,7 @@ pub record Promises (p : Plan) (h : List Entry) : Type 0 where
 -- each entry follows those before it, and each prefix keeps the promises
 abbrev pub IsLawful : Plan → List Entry → Type 0
 IsLawful p [] = Unit {0}
-IsLawful p (e ∷ h) = IsLawful p h × (e ≡ next_entry p h e.event) × Promises p (e ∷ h)
+IsLawful p (e ∷ h) = IsLawful p h × IsNext p h e × Promises p (e ∷ h)
 
 abbrev pub Lawful : Deployment → List Entry → Type 0
 Lawful d h = IsLawful (plan_of d) h

@@ -11,6 +11,7 @@ pub mod Follower
 pub mod Leader
 pub mod Teller
 pub mod Heartbeat
+pub mod Failing
 pub mod Function
 pub mod Client
 pub mod Replies

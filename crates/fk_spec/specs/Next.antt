@@ -1,5 +1,5 @@
 -- The one entry that may follow a history at an event.
-use Rattle.std.specs.Prelude.{◌≡◌, ℕ, ◌+◌, if◌then◌else◌, List, [], ◌∷◌, Option, Some, None, max}
+use Rattle.std.specs.Prelude.{◌≡◌, ℕ, ◌+◌, Bool, true, if◌then◌else◌, List, [], ◌∷◌, Option, Some, None, max}
 use Rattle.fk_tree.specs.declared.applied.Applied.{Applied}
 use Rattle.fk_tree.specs.declared.request.Request.{Request}
 use Rattle.fk_tree.specs.declared.request.Request.TheVariants as request
@@ -13,7 +13,7 @@ use Rattle.fk_print.specs.declared.line.Line.TheVariants as line
 use Rattle.fk_print.specs.declared.line.Printed.{Printed}
 use Rattle.fk_print.specs.declared.op.Op.{Op}
 use Rattle.fk_print.specs.declared.op.Op.TheVariants as op
-use Rattle.fk_spec.specs.Plan.{Plan}
+use Rattle.fk_spec.specs.Plan.{Plan, is_client}
 use Rattle.fk_spec.specs.Start.{clock_of, starts_of}
 use Rattle.fk_spec.specs.Stored.{committed_as}
 use Rattle.fk_spec.specs.Lanes.{session_head, leader_head, watch_head}
@@ -79,7 +79,19 @@ next_lines p h o = lines_of_client p h o (client_in o)
 abbrev pub next_entry : Plan → List Entry → Event → Entry
 next_entry p h e = let o = next_op p h e in record { event = e; op = o; lines = next_lines p h o }
 
+-- a client that an event names is one of the plan's
+abbrev pub names_client : Plan → Event → Bool
+names_client p (event.Client c) = is_client p c
+names_client p (event.Deliver c) = is_client p c
+names_client p (event.Beat c) = is_client p c
+names_client p (event.FailClient c) = is_client p c
+names_client p _ = true
+
+-- an entry follows others: its event names a client, where it names one, and it is the next at its event
+abbrev pub IsNext : Plan → List Entry → Entry → Type 0
+IsNext p h e = (e ≡ next_entry p h e.event) × (names_client p e.event ≡ true)
+
 -- each entry follows those before it
 abbrev pub IsHistory : Plan → List Entry → Type 0
 IsHistory p [] = Unit {0}
-IsHistory p (e ∷ h) = IsHistory p h × (e ≡ next_entry p h e.event)
+IsHistory p (e ∷ h) = IsHistory p h × IsNext p h e

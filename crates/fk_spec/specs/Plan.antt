@@ -1,5 +1,5 @@
 -- What a deployment comes to for the protocol: how long its locks last, and what its clients ask for.
-use Rattle.std.specs.Prelude.{ℕ, zero, suc, nat_le, Bool, true, false, if◌then◌else◌, List, [], ◌∷◌, Option, Some, None, length}
+use Rattle.std.specs.Prelude.{ℕ, zero, suc, nat_le, Bool, true, false, ◌&&◌, if◌then◌else◌, List, [], ◌∷◌, Option, Some, None, length}
 use Rattle.fk_base.specs.Path.{PathNames, path_of, is_root}
 use Rattle.fk_tree.specs.declared.request.Part.{Part}
 use Rattle.fk_tree.specs.declared.request.Part.TheVariants as part
@@ -33,6 +33,10 @@ pub record Plan : Type 0 where
   pub lock : ℕ
   pub beat : ℕ
   pub asks : List (List Ask)
+
+-- whether this is the number of one of the plan's clients, from 1
+abbrev pub is_client : Plan → ℕ → Bool
+is_client p c = nat_le 1 c && nat_le c (length p.asks)
 
 -- how many bytes of data a command may bring, and how long its path's text may be; a sequential
 -- create's is shorter by its ten digits

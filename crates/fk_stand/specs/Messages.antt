@@ -7,7 +7,7 @@ use Rattle.fk_tree.specs.declared.request.Request.TheVariants as request
 use Rattle.fk_print.specs.declared.entry.Entry.{Entry}
 use Rattle.fk_print.specs.declared.op.Op.{Op}
 use Rattle.fk_print.specs.declared.op.Op.TheVariants as op
-use Rattle.fk_wire.specs.declared.fired.Fired.{Fired}
+use Rattle.fk_watch.specs.Notes.{fired_as, watch_tell}
 use Rattle.fk_wire.specs.declared.message.Note.{Note}
 use Rattle.fk_wire.specs.declared.message.Pushed.{Pushed}
 use Rattle.fk_wire.specs.declared.message.Sent.{Sent}
@@ -18,10 +18,10 @@ use Rattle.fk_spec.specs.Start.{Origin, clock_of, or_else, request_from, request
 use Rattle.fk_spec.specs.Locks.{Loss}
 use Rattle.fk_spec.specs.Settling as settling
 use Rattle.fk_spec.specs.Stored.{owned_among}
-use Rattle.fk_spec.specs.Watches.{Firing, firing_of, swept_by}
+use Rattle.fk_spec.specs.Watches.{firing_of, swept_by}
 use Rattle.fk_spec.specs.Lanes as lanes
 use Rattle.fk_spec.specs.Lanes.{posted_in}
-use Rattle.fk_spec.specs.Follower.{Follower, Granted, view_of}
+use Rattle.fk_spec.specs.Follower.{Follower, paths_of, view_of}
 use Rattle.fk_spec.specs.Function.{Place, Following, place_of}
 
 -- ---- a session's lane
@@ -34,9 +34,6 @@ abbrev pub sent_message : Plan → ℕ → List Entry → Op → Option Sent
 sent_message p c h o = sent_from p c (sent_in c h o)
 
 -- ---- the leader's lane
-
-abbrev pub paths_of : List Granted → List PathNames
-paths_of gs = map (λ g. g.path) gs
 
 -- of the nodes that its session owned, those that it owns in the granted records
 abbrev pub gone_of : Follower → Request → List PathNames
@@ -79,9 +76,6 @@ push_message_of p t (e ∷ h) = or_else (push_here p t h e.op) (push_message_of 
 
 -- ---- the watch lane
 
-abbrev pub fired_as : Firing → Fired
-fired_as f = record { id = f.watch.id; session = f.watch.session; path = f.watch.path; kind = f.watch.kind; change = f.change }
-
 -- the message that this line puts into the watch lane: what the leader's sweep fired
 abbrev pub note_message : Plan → List Entry → Op → Option Note
 note_message p h (op.Notify n tx note) = Some (record { tx = tx; fired = map fired_as (swept_by p n h).fired })
@@ -101,9 +95,6 @@ abbrev pub kept_tell : ℕ → settling.Outcome → Option Tell
 kept_tell k (settling.Committed tx) = None
 kept_tell k (settling.Refused code place at) = Some (tell.Refused k code at place)
 kept_tell k (settling.Passed loss) = option_map (lost_tell k) loss
-
-abbrev pub watch_tell : Firing → Tell
-watch_tell f = tell.Watch f.tx (fired_as f)
 
 abbrev pub tell_of : Plan → List Entry → lanes.Message → Option Tell
 tell_of p h (lanes.Done k tx) = option_map (done_tell k tx) (push_message_of p tx h)

@@ -1,5 +1,5 @@
 -- What the conditional table holds after a history.
-use Rattle.std.specs.Prelude.{ℕ, nat_le, Bool, false, if◌then◌else◌, ◌&&◌, ◌||◌, not, List, [], ◌∷◌, ◌++◌, length, Option, Some, None, is_some}
+use Rattle.std.specs.Prelude.{ℕ, Bool, false, if◌then◌else◌, ◌||◌, not, List, [], ◌∷◌, ◌++◌, Option, Some, None, is_some}
 use Rattle.fk_base.specs.Path.{PathNames, is_root}
 use Rattle.fk_print.specs.declared.entry.Entry.{Entry}
 use Rattle.fk_print.specs.declared.op.Op.{Op}
@@ -12,7 +12,7 @@ use Rattle.fk_store.specs.declared.session_record.SessionRecord.{SessionRecord}
 use Rattle.fk_store.specs.Locks.{no_lock}
 use Rattle.fk_store.specs.Meaning.{Meaning}
 use Rattle.fk_store.specs.Writes.{without}
-use Rattle.fk_spec.specs.Plan.{Plan}
+use Rattle.fk_spec.specs.Plan.{Plan, is_client}
 use Rattle.fk_spec.specs.Start.{is_session}
 use Rattle.fk_spec.specs.Locks.{Grant, Loss, last_grant, has_released}
 use Rattle.fk_spec.specs.Settling as settling
@@ -72,11 +72,8 @@ session_record p c h = record {
   pong = pong_of c h;
 }
 
--- the sessions are the clients, from 1
-abbrev pub is_client : Plan → ℕ → Bool
-is_client p c = nat_le 1 c && nat_le c (length p.asks)
-
--- What the table holds after a history; it is calm, and its calls failed so many times.
+-- What the table holds after a history: its sessions are the clients. It is calm, and its calls failed so many
+-- times.
 abbrev pub table_after : Plan → List Entry → ℕ → Meaning
 table_after p h faults = record {
   nodes = λ path. if has_record path h then Some (node_record p path h) else None;

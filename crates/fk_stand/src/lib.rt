@@ -2,8 +2,10 @@
 //! the lanes, and the watches, each read from the history's lines. Definitions, and worked runs of them.
 #![tactic(auto)]
 
+mod counts;
 mod worked;
 
+pub use counts::lanes_are_bounded;
 pub use worked::{
     create_is_committed, create_is_published, create_is_pushed, create_is_sent, create_is_told,
     eviction_is_kept, eviction_is_told, lanes_are_emptied, loss_is_kept, loss_is_told,

@@ -3,6 +3,7 @@ pub mod Fit
 pub mod MadesBack
 pub mod NoteBack
 pub mod Pusheds
+pub mod Readable
 pub mod Requests
 pub mod Sents
 pub mod TellBack

@@ -6,5 +6,6 @@ pub mod NoteText
 pub mod Objects
 pub mod Ops
 pub mod PushedText
+pub mod Readable
 pub mod SentText
 pub mod TellText

@@ -1,0 +1,10 @@
+mod Carried
+mod Committing
+mod Finishing
+mod Granting
+mod Listing
+mod Locking
+mod Putting
+mod Settling
+mod Telling
+mod Writing

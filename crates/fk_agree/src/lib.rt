@@ -1,0 +1,14 @@
+//! What services hold says the same as the rules: laws that tie what `fk_stand` says of the services after a
+//! history to what the rules of a history read. Each law is the clause of a function without a body.
+#![tactic(auto)]
+
+mod pushes;
+mod storage;
+mod tables;
+
+pub use pushes::{message_tells_its_push, push_is_its_commit};
+pub use storage::{put_is_written, storage_starts_and_stays};
+pub use tables::{
+    commit_is_written, finish_is_written, grant_is_written, ping_is_written, refusal_is_written,
+    table_starts_and_stays,
+};
