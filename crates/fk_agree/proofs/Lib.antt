@@ -4,6 +4,7 @@ mod Finishing
 mod Granting
 mod Listing
 mod Locking
+mod Posting
 mod Putting
 mod Settling
 mod Telling

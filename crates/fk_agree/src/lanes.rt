@@ -1,0 +1,14 @@
+ghost use Rattle.fk_agree.specs.Letters.{HeadIsPopped, LetterIsPushed, NewPostStands, PostStays};
+
+/// A law: a new post is what the rules say of no history, and a line that leaves each lane leaves the post.
+pub fn post_starts_and_stays()
+    ensures new { NewPostStands }
+    ensures stays { PostStays }
+{}
+
+/// A law: a line that puts a message into one lane is a push there, and one that removes a lane's head is an
+/// acknowledgement.
+pub fn letters_are_pushed_and_popped()
+    ensures pushed { LetterIsPushed }
+    ensures popped { HeadIsPopped }
+{}
