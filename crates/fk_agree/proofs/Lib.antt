@@ -1,5 +1,6 @@
 mod Carried
 mod Committing
+mod Counting
 mod Finishing
 mod Granting
 mod Listing
