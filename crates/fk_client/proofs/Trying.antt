@@ -18,7 +18,7 @@ use Rattle.fk_wire.specs.declared.version.Version.TheVariants as version
 use Rattle.fk_spec.specs.Plan.{Ask, Want, Unfit, Writes, Reads}
 use Rattle.fk_client.specs.Fit.{IsFit, IsLimitedAsk}
 use Rattle.fk_client.specs.Idle.{is_idle}
-use Rattle.fk_client.specs.Meaning.{Meaning, next_asked}
+use Rattle.fk_client.specs.Meaning.{Meaning, next_ask}
 use Rattle.fk_client.specs.Services as services
 use Rattle.fk_client.specs.Services.{Posting, Keeps, Takes, Sends, Fails, post_by, posted_as, posting}
 use Rattle.fk_client.specs.Told.{IsReadable}
@@ -26,7 +26,7 @@ use Rattle.fk_client.specs.Tried.{HasRoom}
 
 -- ---- it may be made
 
-pub fits : (t : table.Meaning) (q : post.Meaning) (w : Watches) (n : ℕ) (m : Meaning) → m.session ≡ 1 → n < 100 → HasRoom n q → is_idle q m ≡ false → is_some (t.sessions 1) ≡ true → IsReadable (q.lanes (lane.Inbox 1)).waiting → w.given < 2 ^ 63 - 1 → IsNumber m.seen → IsLimitedAsk (next_asked m) → IsFit t q w m
+pub fits : (t : table.Meaning) (q : post.Meaning) (w : Watches) (n : ℕ) (m : Meaning) → m.session ≡ 1 → n < 100 → HasRoom n q → is_idle q m ≡ false → is_some (t.sessions 1) ≡ true → IsReadable (q.lanes (lane.Inbox 1)).waiting → w.given < 2 ^ 63 - 1 → IsNumber m.seen → IsLimitedAsk (next_ask m) → IsFit t q w m
 fits t q w n m e l r b s i g k a = record {
   busy = b;
   table = rw e s;
@@ -81,7 +81,7 @@ sent_asked n session seen (Some a) q r = sent_for n session seen a.want q r
 by_posting : (n : ℕ) (q : post.Meaning) (m : Meaning) (x : Posting) → HasRoom n q → HasRoom (n + 1) (posted_as m x q)
 by_posting n q m Keeps r = more n q r
 by_posting n q m (Takes session) r = more n (post.popped (lane.Inbox session) q) (popped n session q r)
-by_posting n q m (Sends session) r = sent_asked n session m.seen (next_asked m) q r
+by_posting n q m (Sends session) r = sent_asked n session m.seen (next_ask m) q r
 by_posting n q m Fails r = more n (post.called q) (called n q r)
 
 pub stays : (n : ℕ) (q : post.Meaning) (m : Meaning) (o : Op) → HasRoom n q → HasRoom (n + 1) (post_by m o q)

@@ -2,7 +2,7 @@ ghost use Rattle.std.specs.Prelude.{◌≡◌, ◌+◌, ◌-◌, ◌<◌, ◌≤
 ghost use Rattle.fk_queue.specs.Posts.{post_of};
 ghost use Rattle.fk_queue.specs.declared.lane.Lane.TheVariants as lane;
 ghost use Rattle.fk_client.specs.Fit.{IsLimitedAsk};
-ghost use Rattle.fk_client.specs.Meaning.{next_asked};
+ghost use Rattle.fk_client.specs.Meaning.{next_ask};
 ghost use Rattle.fk_client.specs.Standing.{client_of};
 ghost use Rattle.fk_client.specs.Told.{IsReadable};
 ghost use Rattle.fk_client.specs.Tried.{HasRoom};
@@ -71,7 +71,7 @@ fn is_readable(alloc: Global, post: &Post) -> Result<bool, NoMemory>
 /// Whether the next command is within the limits of messages; of the writes only some are looked at.
 #[tactic(auto, unfolding(crate::specs::Standing::client_of), using(crate::proofs::Wants::wants, crate::proofs::Wants::limited_ask))]
 fn is_limited(alloc: Global, client: &Client) -> Result<bool, NoMemory>
-    ensures { IfOk result (λ b. IsTrue b → IsLimitedAsk (next_asked (client_of client.now))) }
+    ensures { IfOk result (λ b. IsTrue b → IsLimitedAsk (next_ask (client_of client.now))) }
 {
     let Some(command) = client.next() else {
         return Ok(true);
