@@ -1,4 +1,5 @@
 pub mod Asking
+pub mod Same
 pub mod Settling
 pub mod Numbers
 pub mod Answered

@@ -2,6 +2,7 @@ pub mod Answering
 pub mod Beginning
 pub mod Fit
 pub mod Idle
+pub mod Knowing
 pub mod Known
 pub mod Meaning
 pub mod Operation

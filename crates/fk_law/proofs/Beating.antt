@@ -16,7 +16,7 @@ use Rattle.fk_spec.specs.Start.{Task, Follows, Leads, Notifies, Probes, Push, st
 use Rattle.fk_spec.specs.Locks as locks
 use Rattle.fk_spec.specs.Locks.{granted, first_passed}
 use Rattle.fk_spec.specs.Settling.{settled_of}
-use Rattle.fk_spec.specs.Lanes.{session_head, leader_head, watch_head, Message, inbox_of}
+use Rattle.fk_spec.specs.Lanes.{session_head, leader_head, watch_head, Message}
 use Rattle.fk_spec.specs.Follower.{Follower, follower_op, session_op, lock_op, commit_op, commit_locked, refuse_op, expire_op, lost_op, ack_op}
 use Rattle.fk_spec.specs.Follower as follower
 use Rattle.fk_spec.specs.Leader.{leader_op, of_push, for_push, for_task}

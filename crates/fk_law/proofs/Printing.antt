@@ -14,7 +14,6 @@ use Rattle.fk_spec.specs.Shown.{seen_by}
 use Rattle.fk_spec.specs.Settling.{is_committed, commits, mark_of, mark_in}
 use Rattle.fk_spec.specs.Stored.{committed_of, committed_in, committed_as, applied_as, with_filled}
 use Rattle.fk_spec.specs.Watches.{Firing, firing_of}
-use Rattle.fk_spec.specs.Lanes.{inbox_of}
 use Rattle.fk_spec.specs.Sight.{sight_of}
 use Rattle.fk_spec.specs.Client.{by_result, ready_first, registers, contains, acted_by, client_in, client_of, Sent, Reading, Client}
 use Rattle.fk_spec.specs.Replies.{reply_lines, first_line, read_line, read_lines, looked_lines, notice_of, own_lines, wording}
