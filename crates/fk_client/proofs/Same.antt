@@ -1,11 +1,10 @@
 -- A client of the machine acts as the rules' client.
 use Rattle.std.proofs.Common.{◌≡◌, ℕ, ◌+◌, ◌++◌, Bool, true, false, cond, List, [], ◌∷◌, Option, Some, None, refl, ◌∙◌, ap}
-use Rattle.std.specs.Prelude.{◌==◌, ◌&&◌, if◌then◌else◌}
-use Rattle.fk_print.specs.declared.line.Verb.{Verb}
+use Rattle.std.specs.Prelude.{◌==◌, ◌&&◌}
 use Rattle.fk_print.specs.declared.op.Op.{Op}
 use Rattle.fk_print.specs.declared.op.Op.TheVariants as op
 use Rattle.fk_base.specs.declared.code.Code.TheVariants as code
-use Rattle.fk_spec.specs.Client.{Client, Reading, Result, Open, Settled, Plain, Expired, Sent, Target, acted, all_go_on, begin_asked, begin_op, by_result, close_if, flushed, goes_on, is_close, is_none_sent, is_open, is_ready, is_unfit, is_write, joined, local_result, look_or, looked, looked_at, looked_for, may_begin, next_asked, number_read, op_of_client, pong_or, registers, settle_with, take_or, target_of, target_sent, watch_or, with_told, without_ready}
+use Rattle.fk_spec.specs.Client.{Client, Reading, Result, Open, Plain, Sent, acted, all_go_on, begin_asked, begin_op, by_result, close_if, flushed, goes_on, is_close, is_none_sent, is_open, is_ready, is_unfit, is_write, joined, local_result, look_or, looked, looked_at, looked_for, may_begin, next_asked, number_read, pong_or, registers, settle_with, take_or, target_of, target_sent, watch_or, with_told, without_ready}
 use Rattle.fk_spec.specs.Plan.{Ask, nth}
 use Rattle.fk_spec.specs.Sight.{Sight}
 use Rattle.fk_client.specs.Known.{by_outcome, kept_as, known, unanswered}

@@ -1,5 +1,5 @@
 -- A client of the machine, as the rules know it: it makes the rules' operation, and comes to the rules' client.
-use Rattle.std.specs.Prelude.{◌≡◌, ℕ, List, [], ◌∷◌, Option, Some, None}
+use Rattle.std.specs.Prelude.{◌≡◌, List, [], ◌∷◌, Option, Some, None}
 use Rattle.fk_print.specs.declared.op.Op.{Op}
 use Rattle.fk_spec.specs.Client.{Client, Result, Sent, acted, by_result, flushed, op_of_client}
 use Rattle.fk_spec.specs.Sight.{Sight}

@@ -1,5 +1,5 @@
 -- What a client prints with its operation, and what it has come to after it, by the rules of clients.
-use Rattle.std.specs.Prelude.{ℕ, List, [], ◌∷◌, ◌++◌, Option, Some, None}
+use Rattle.std.specs.Prelude.{ℕ, List, ◌++◌, Option, Some, None}
 use Rattle.fk_base.specs.Path.{PathNames}
 use Rattle.fk_tree.specs.Apply.{part_replies}
 use Rattle.fk_tree.specs.declared.applied.Made.{Made}

@@ -1,4 +1,4 @@
-use Rattle.std.proofs.Common.{rules, ◌≡◌, IfOk, sym, ◌∙◌, ap, subst, Option, None}
+use Rattle.std.proofs.Common.{rules, ◌≡◌, IfOk, sym, ◌∙◌, ap, subst, None}
 use Rattle.fk_queue.specs.Posts.{post_of}
 use Rattle.fk_queue.specs.declared.lane.Lane.TheVariants as lane
 use Rattle.fk_user.specs.Stored.{store_of}

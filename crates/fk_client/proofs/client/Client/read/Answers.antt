@@ -1,4 +1,4 @@
-use Rattle.std.proofs.Common.{rules, ◌≡◌, ◌+◌, Some, ◌∙◌, sym, ap}
+use Rattle.std.proofs.Common.{Some, ◌∙◌, sym, ap}
 use Rattle.fk_user.specs.Stored.{store_of}
 use Rattle.fk_client.specs.Known.{reading_as, reading_in}
 use Rattle.fk_client.specs.Standing.{client_of}
