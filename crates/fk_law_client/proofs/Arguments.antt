@@ -23,7 +23,6 @@ use Rattle.fk_spec.specs.Locks.{Loss}
 use Rattle.fk_spec.specs.Settling.{Outcome, Committed, Refused, Passed, mark_of}
 use Rattle.fk_spec.specs.Stored.{committed_as}
 use Rattle.fk_spec.specs.Watches.{Firing, firing_of}
-use Rattle.fk_spec.specs.Lanes.{Message, inbox_of}
 use Rattle.fk_spec.specs.Sight.{sight_of}
 use Rattle.fk_spec.specs.Client.{is_open, is_ready, by_result, with_told, without_ready, ready_first, is_unfit, registers, is_close, number_read, contains, settle_with, local_result, close_if, looked_for, looked_at, looked, flushed, kept_outcome, settled_as, acted_by, client_in, client_by, client_of, Result, Sent, Reading, Client, Open, Settled, Plain, Expired}
 use Rattle.fk_spec.specs.Replies.{shown_reply, shown_applied, shown_loss, shown_result, reply_lines, first_line, shown_answer, shown_asked, read_line, read_lines, looked_lines, notice_of, own_lines, wording, client_lines}

@@ -18,9 +18,8 @@ use Rattle.fk_spec.specs.Shown.{seen_by}
 use Rattle.fk_spec.specs.Settling.{Outcome, Committed, mark_of}
 use Rattle.fk_spec.specs.Stored.{committed_as}
 use Rattle.fk_spec.specs.Watches.{Firing, firing_of}
-use Rattle.fk_spec.specs.Lanes.{Message, inbox_of}
 use Rattle.fk_spec.specs.Sight.{sight_of}
-use Rattle.fk_spec.specs.Client.{is_open, is_ready, by_result, with_told, without_ready, ready_first, is_unfit, registers, is_close, contains, settle_with, local_result, answered, close_if, looked_for, looked_at, looked, flushed, kept_outcome, settled_as, acted_by, client_in, client_by, client_of, Result, Sent, Reading, Client, Open, Settled, Plain}
+use Rattle.fk_spec.specs.Client.{is_open, is_ready, by_result, with_told, without_ready, ready_first, is_unfit, registers, is_close, contains, settle_with, local_result, close_if, looked_for, looked_at, looked, flushed, kept_outcome, settled_as, acted_by, client_in, client_by, client_of, Result, Sent, Reading, Client, Open, Settled, Plain}
 use Rattle.fk_spec.specs.Replies.{shown_result, verb_asked, reply_line, reply_lines, first_line, read_line, read_lines, looked_lines, notice_of, failed_line, own_lines, wording, client_lines}
 use Rattle.fk_spec.specs.PublicLines.{Each, lines_of, lines_onto}
 use Rattle.fk_spec.specs.Promises.{is_earlier, all_earlier}

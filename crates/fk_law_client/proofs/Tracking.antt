@@ -14,7 +14,7 @@ use Rattle.fk_spec.specs.Start.{sends_of, sent_in, count_sent}
 use Rattle.fk_spec.specs.Settling.{Outcome, Committed, Refused, Passed, mark_of}
 use Rattle.fk_spec.specs.Lanes.{Message, Done, Kept, inbox_of}
 use Rattle.fk_spec.specs.Sight.{first_message, sight_of}
-use Rattle.fk_spec.specs.Client.{is_open, is_ready, by_result, with_told, without_ready, is_unfit, registers, is_close, is_write, settle_with, local_result, answered, close_if, looked_for, looked_at, looked, flushed, kept_outcome, settled_as, acted_by, client_in, client_by, client_of, Result, Sent, Reading, Client, Open, Settled, Plain, Expired}
+use Rattle.fk_spec.specs.Client.{is_open, is_ready, by_result, with_told, without_ready, is_unfit, registers, is_close, is_write, settle_with, local_result, close_if, looked_for, looked_at, looked, flushed, kept_outcome, settled_as, acted_by, client_in, client_by, client_of, Result, Sent, Reading, Client, Open, Settled, Plain, Expired}
 use Rattle.fk_spec.specs.Replies.{verb_asked}
 use Rattle.fk_spec.specs.Next.{IsHistory}
 use Rattle.fk_law.specs.Due.{IsDue}

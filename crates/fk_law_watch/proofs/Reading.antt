@@ -20,7 +20,7 @@ use Rattle.fk_spec.specs.Start.{starts_of, sends_of}
 use Rattle.fk_spec.specs.Settling.{Outcome, Committed, Refused, Passed, mark_of, mark_in}
 use Rattle.fk_spec.specs.Stored.{committed_as, stamp_of}
 use Rattle.fk_spec.specs.Watches.{Firing, firing_of, last_sweep}
-use Rattle.fk_spec.specs.Lanes.{session_head, leader_head, watch_head, Message, Done, Evicted, Kept, Watch, Ping, inbox_of}
+use Rattle.fk_spec.specs.Lanes.{session_head, leader_head, watch_head, Message, Done, Evicted, Kept, Watch, Ping}
 use Rattle.fk_spec.specs.Function.{place_of, function_op, fault_op}
 use Rattle.fk_spec.specs.Sight.{watch_number, sight_of, Sight}
 use Rattle.fk_spec.specs.Client.{by_result, without_ready, ready_first, registers, is_close, is_write, number_read, target_sent, target_of, pong_or, take_op, take_or, contains, held_op, look_op, look_or, register_for, register_asked, watch_or, all_go_on, is_none_sent, may_begin, local_if, begin_op, begin_asked, failed_op, settle_with, close_if, looked_for, looked_at, flushed, kept_outcome, settled_as, acted_by, client_in, client_by, client_of, client_op, Sent, Reading, Client, Target}

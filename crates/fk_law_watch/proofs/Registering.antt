@@ -16,9 +16,9 @@ use Rattle.fk_spec.specs.Plan.{Plan, Ask, Want, Unfit, Writes, Reads, asked, ask
 use Rattle.fk_spec.specs.Start.{Task, Follows, Leads, Notifies, Probes, Push, starts_of, task_of, push_of}
 use Rattle.fk_spec.specs.Locks as locks
 use Rattle.fk_spec.specs.Locks.{granted, first_passed}
-use Rattle.fk_spec.specs.Settling.{Committed, Refused, Passed, settled_of}
+use Rattle.fk_spec.specs.Settling.{settled_of}
 use Rattle.fk_spec.specs.Watches.{watch_asked, last_sweep}
-use Rattle.fk_spec.specs.Lanes.{session_head, leader_head, watch_head, Message, inbox_of}
+use Rattle.fk_spec.specs.Lanes.{session_head, leader_head, watch_head, Message}
 use Rattle.fk_spec.specs.Follower.{Follower, follower_op, session_op, commit_op, commit_locked, ack_op}
 use Rattle.fk_spec.specs.Follower as follower
 use Rattle.fk_spec.specs.Leader.{leader_op, for_push, for_task}
