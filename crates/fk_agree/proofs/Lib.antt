@@ -1,9 +1,11 @@
 mod Carried
 mod Committing
+mod Counting
 mod Finishing
 mod Granting
 mod Listing
 mod Locking
+mod Posting
 mod Putting
 mod Settling
 mod Telling

@@ -2,10 +2,12 @@
 //! history to what the rules of a history read. Each law is the clause of a function without a body.
 #![tactic(auto)]
 
+mod lanes;
 mod pushes;
 mod storage;
 mod tables;
 
+pub use lanes::{heads_are_the_rules, letters_are_pushed_and_popped, post_starts_and_stays};
 pub use pushes::{message_tells_its_push, push_is_its_commit};
 pub use storage::{put_is_written, storage_starts_and_stays};
 pub use tables::{

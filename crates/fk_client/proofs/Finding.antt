@@ -13,7 +13,7 @@ use Rattle.fk_spec.specs.Client as spec
 use Rattle.fk_spec.specs.Plan.{Unfit, Writes, Reads, at_path, is_small, parts_of, path_within, path_limit, want_delete, want_multi, want_of}
 use Rattle.fk_client.specs.Answering.{sets_watch, shown_found}
 use Rattle.fk_client.specs.Meaning.{is_read}
-use Rattle.fk_client.specs.Shown.{shown_read}
+use Rattle.fk_spec.specs.Replies.{shown_read}
 
 no_write : (o : Option PathNames) (f : PathNames → Request) → is_read (at_path o (λ p. Writes (f p))) ≡ false
 no_write None f = refl

@@ -1,6 +1,8 @@
 pub mod Asking
+pub mod Same
 pub mod Settling
 pub mod Numbers
+pub mod Answered
 pub mod Finding
 pub mod Watching
 pub mod Wants

@@ -2,20 +2,19 @@
 use Rattle.std.proofs.Common.{◌≡◌, ◌+◌, Bool, true, false, cond, Option, Some, None, refl, sym, subst, arith}
 use Rattle.std.specs.Prelude.{is_some, not}
 use Rattle.fk_print.specs.declared.op.Op.TheVariants as op
-use Rattle.fk_queue.specs.Meaning as post
 use Rattle.fk_tree.specs.Ask.{path_asked}
 use Rattle.fk_tree.specs.declared.request.Query.{Query}
 use Rattle.fk_tree.specs.declared.request.Request.{Request}
-use Rattle.fk_user.specs.Meaning as user
 use Rattle.fk_wire.specs.Limits.{IsLimitedRequest}
 use Rattle.fk_script.specs.declared.command.Command.{Command}
-use Rattle.fk_spec.specs.Client.{is_unfit}
+use Rattle.fk_spec.specs.Client.{begin_asked, begin_op, is_unfit, may_begin}
+use Rattle.fk_spec.specs.Sight.{Sight}
 use Rattle.fk_spec.specs.Plan.{Ask, Want, Unfit, Writes, Reads, ask_of, want_of}
 use Rattle.fk_client.specs.Beginning.{IsNextRead, IsNextWrite, Wants}
 use Rattle.fk_client.specs.Fit.{IsLimitedAsk, IsLimitedWant}
 use Rattle.fk_client.specs.Idle.{waits_next}
-use Rattle.fk_client.specs.Meaning.{Meaning, may_begin, next_asked}
-use Rattle.fk_client.specs.Operation.{begin_op, next_command_op}
+use Rattle.fk_client.specs.Known.{by_outcome}
+use Rattle.fk_client.specs.Meaning.{Meaning, next_ask}
 
 pub some : (o : Option Ask) (w : Want) → Wants o w → is_some o ≡ true
 some None w x = absurd x
@@ -54,13 +53,13 @@ pub limited : (o : Option Ask) (r : Request) → Wants o (Writes r) → IsLimite
 limited None r x l = absurd x
 limited (Some a) r x l = limited_in a.want r x l
 
-begins_in : (q : post.Meaning) (u : user.Meaning) (m : Meaning) (o : Option Ask) (w : Want) → Wants o w → waits_next m o ≡ false → next_command_op q u m o ≡ begin_op q u m.session (m.client.begun + 1) m.client.closed w
-begins_in q u m None w x e = absurd x
-begins_in q u m (Some a) w x e = rw x (step (may_begin m.asks a m.client.sent) e)
+begins_in : (s : Sight) (m : Meaning) (o : Option Ask) (w : Want) → s.asks ≡ m.asks → Wants o w → waits_next m o ≡ false → begin_asked by_outcome s m.client o ≡ begin_op s (m.client.begun + 1) m.client.closed w
+begins_in s m None w a x e = absurd x
+begins_in s m (Some v) w a x e = rw (x, a) (step (may_begin by_outcome m.asks v m.client.sent) e)
   where
-    step : (b : Bool) → not b ≡ false → cond b (begin_op q u m.session (m.client.begun + 1) m.client.closed w) op.Idle ≡ begin_op q u m.session (m.client.begun + 1) m.client.closed w
+    step : (b : Bool) → not b ≡ false → cond b (begin_op s (m.client.begun + 1) m.client.closed w) op.Idle ≡ begin_op s (m.client.begun + 1) m.client.closed w
     step true e = refl
     step false e = absurd (grind arith)
 
-pub begins : (q : post.Meaning) (u : user.Meaning) (m : Meaning) (w : Want) → Wants (next_asked m) w → waits_next m (next_asked m) ≡ false → next_command_op q u m (next_asked m) ≡ begin_op q u m.session (m.client.begun + 1) m.client.closed w
-begins q u m w x e = begins_in q u m (next_asked m) w x e
+pub begins : (s : Sight) (m : Meaning) (w : Want) → s.asks ≡ m.asks → Wants (next_ask m) w → waits_next m (next_ask m) ≡ false → begin_asked by_outcome s m.client (next_ask m) ≡ begin_op s (m.client.begun + 1) m.client.closed w
+begins s m w a x e = begins_in s m (next_ask m) w a x e

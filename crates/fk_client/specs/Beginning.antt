@@ -8,9 +8,9 @@ use Rattle.fk_tree.specs.declared.request.Request.{Request}
 use Rattle.fk_user.specs.Meaning as user
 use Rattle.fk_wire.specs.SentText.{sent_text}
 use Rattle.fk_wire.specs.declared.version.Version.TheVariants as version
+use Rattle.fk_spec.specs.Client.{Reading}
 use Rattle.fk_spec.specs.Plan.{Ask, Want, Unfit, Writes, Reads}
 use Rattle.fk_client.specs.Services.{message_of}
-use Rattle.fk_client.specs.declared.reading.Reading.{Reading}
 
 -- there is a next command, and it wants this
 abbrev pub Wants : Option Ask → Want → Type 0

@@ -8,7 +8,7 @@ use Rattle.fk_watch.specs.Meaning.{Watches}
 use Rattle.fk_wire.specs.Limits.{IsLimitedRequest, IsNumber}
 use Rattle.fk_spec.specs.Plan.{Ask, Want, Unfit, Writes, Reads}
 use Rattle.fk_client.specs.Idle.{is_idle}
-use Rattle.fk_client.specs.Meaning.{Meaning, next_asked}
+use Rattle.fk_client.specs.Meaning.{Meaning, next_ask}
 use Rattle.fk_client.specs.Told.{IsReadable}
 
 abbrev pub IsLimitedWant : Want → Type 0
@@ -31,4 +31,4 @@ pub record IsFit (t : table.Meaning) (q : post.Meaning) (w : Watches) (m : Meani
   pub sends : (q.lanes (lane.Session m.session)).given < 2 ^ 63 - 1
   pub watches : w.given < 2 ^ 63 - 1
   pub seen : IsNumber m.seen
-  pub request : IsLimitedAsk (next_asked m)
+  pub request : IsLimitedAsk (next_ask m)

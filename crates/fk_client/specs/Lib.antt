@@ -2,14 +2,14 @@ pub mod Answering
 pub mod Beginning
 pub mod Fit
 pub mod Idle
-pub mod Looking
+pub mod Knowing
+pub mod Known
 pub mod Meaning
-pub mod Next
 pub mod Operation
 pub mod Registering
 pub mod Services
 pub mod Shown
+pub mod Sighting
 pub mod Standing
 pub mod Told
-pub mod Unready
 pub mod Wanted

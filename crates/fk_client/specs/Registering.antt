@@ -7,7 +7,7 @@ use Rattle.fk_tree.specs.declared.request.Query.{Query}
 use Rattle.fk_watch.specs.declared.watch.Watch.{Watch}
 use Rattle.fk_watch.specs.Meaning.{Watches, failed}
 use Rattle.fk_watch.specs.Registering.{registered}
-use Rattle.fk_spec.specs.Client.{number_or_next}
+use Rattle.fk_spec.specs.Sight.{number_or_next}
 use Rattle.fk_spec.specs.Plan.{Ask, Want, Unfit, Writes, Reads}
 use Rattle.fk_client.specs.declared.registering.Registered.{Registered}
 use Rattle.fk_client.specs.declared.registering.Registered.TheVariants as registering

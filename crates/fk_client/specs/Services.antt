@@ -19,7 +19,7 @@ use Rattle.fk_wire.specs.declared.message.Sent.{Sent}
 use Rattle.fk_wire.specs.declared.message.Tell.{Tell}
 use Rattle.fk_wire.specs.declared.version.Version.TheVariants as version
 use Rattle.fk_spec.specs.Plan.{Ask, Want, Unfit, Writes, Reads}
-use Rattle.fk_client.specs.Meaning.{Meaning, next_asked}
+use Rattle.fk_client.specs.Meaning.{Meaning, next_ask}
 use Rattle.fk_client.specs.Operation.{step_op}
 use Rattle.fk_client.specs.Shown.{after_by, lines_by}
 use Rattle.fk_print.specs.declared.line.Line.{Line}
@@ -68,7 +68,7 @@ posting _ = Keeps
 abbrev pub posted_as : Meaning → Posting → post.Meaning → post.Meaning
 posted_as m Keeps q = q
 posted_as m (Takes session) q = post.popped (lane.Inbox session) q
-posted_as m (Sends session) q = sent_asked session m.seen (next_asked m) q
+posted_as m (Sends session) q = sent_asked session m.seen (next_ask m) q
 posted_as m Fails q = post.called q
 
 -- the post after an operation of a client
@@ -87,7 +87,7 @@ registered_asked session watch None w = w
 registered_asked session watch (Some a) w = registered_for session watch a.want w
 
 abbrev pub watches_by : Meaning → Op → Watches → Watches
-watches_by m (op.WatchSet session command watch) w = registered_asked session watch (next_asked m) w
+watches_by m (op.WatchSet session command watch) w = registered_asked session watch (next_ask m) w
 watches_by m (op.WatchFault session command) w = watches.failed w
 watches_by m _ w = w
 
@@ -102,7 +102,7 @@ user_by _ u = u
 -- ---- the client and its lines after a step on these services, where `told` is the message at the head of its inbox
 
 abbrev pub after_step : table.Meaning → post.Meaning → Watches → user.Meaning → Option Tell → Meaning → Meaning
-after_step t q w u told m = after_by u told (step_op t q w u told m) m
+after_step t q w u told m = after_by q w u told (step_op t q w u told m) m
 
 abbrev pub lines_after_step : table.Meaning → post.Meaning → Watches → user.Meaning → Option Tell → Meaning → List Line
-lines_after_step t q w u told m = lines_by u told (step_op t q w u told m) m
+lines_after_step t q w u told m = lines_by q w u told (step_op t q w u told m) m

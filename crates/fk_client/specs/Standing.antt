@@ -1,6 +1,7 @@
 -- What the fields of a client mean.
 use Rattle.std.specs.Prelude.{ℕ, List, [], ◌∷◌, Option, Some, None}
 use Rattle.fk_spec.specs.Plan.{asks_of}
+use Rattle.fk_client.specs.Known.{reading_in}
 use Rattle.fk_client.specs.Meaning.{Meaning}
 use Rattle.fk_client.specs.declared.client.Client.{Client}
 
@@ -14,5 +15,5 @@ client_of c = record {
   session = c.session;
   asks = asks_of c.commands;
   seen = c.seen;
-  client = record { begun = c.begun; sent = c.sent.items; held = c.held.items; owed = pings_of c.owed; reading = c.reading; closed = c.closed };
+  client = record { begun = c.begun; sent = c.sent.items; held = c.held.items; owed = pings_of c.owed; reading = reading_in c.reading; closed = c.closed };
 }

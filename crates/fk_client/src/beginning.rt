@@ -14,16 +14,19 @@ ghost use Rattle.fk_user.specs.Stored.{store_of};
 ghost use Rattle.fk_watch.specs.Meaning.{Watches};
 ghost use Rattle.fk_wire.specs.Limits.{IsLimitedRequest, IsNumber};
 ghost use Rattle.fk_wire.specs.declared.message.Tell.{Tell};
-ghost use Rattle.fk_spec.specs.Client.{is_unfit};
+ghost use Rattle.fk_queue.specs.Meaning as queues;
+ghost use Rattle.fk_spec.specs.Client.{begin_asked, begin_op, is_unfit, joined, local_result};
+ghost use Rattle.fk_spec.specs.Sight.{Sight};
 ghost use Rattle.fk_client.specs.Wanted.{want_as};
 ghost use Rattle.fk_client.specs.Beginning.{IsNextRead, IsNextWrite, Wants, posted, read_at};
 ghost use Rattle.fk_client.specs.Fit.{IsLimitedAsk};
 ghost use Rattle.fk_client.specs.Idle.{waits_next};
-ghost use Rattle.fk_client.specs.Meaning.{holding, may_begin, next_asked};
-ghost use Rattle.fk_client.specs.Next.{begin_with, local_outcome};
-ghost use Rattle.fk_client.specs.Operation.{begin_op, failed_if, next_command_op, or_failed};
+ghost use Rattle.fk_client.specs.Known.{by_outcome, kept_as, reading_in, unanswered};
+ghost use Rattle.fk_client.specs.Meaning.{holding, next_ask};
+ghost use Rattle.fk_client.specs.Operation.{failed_if, or_failed};
 ghost use Rattle.fk_client.specs.Services.{post_by, table_by, user_by, watches_by};
-ghost use Rattle.fk_client.specs.Shown.{made_by, own_lines, seeing};
+ghost use Rattle.fk_client.specs.Shown.{lines_in, made_by, made_in};
+ghost use Rattle.fk_client.specs.Sighting.{sight_by};
 ghost use Rattle.fk_client.specs.Standing.{client_of};
 
 use crate::client::Client;
@@ -42,7 +45,7 @@ use std::alloc::Global;
 
 // what a path shows, copied out of the storage, or none where that fails
 fn read_record(user: &mut UserStore, path: &Path) -> Result<Option<Reading>, NoMemory>
-    ensures reading { IfOk result (λ o. o ≡ read_at (store_of user.old) path.now) }
+    ensures reading { IfOk result (λ o. reading_in o ≡ read_at (store_of user.old) path.now) }
     ensures user { OnOk result (store_of user.new ≡ called (store_of user.old)) }
 {
     match user.read(path) {
@@ -87,7 +90,7 @@ fn push_request(
 
 // what the client itself answers
 fn local_outcome(unfit: bool, seen: u64) -> Outcome
-    ensures { result ≡ local_outcome unfit seen }
+    ensures { result ≡ kept_as (local_result unfit seen) }
 {
     if unfit {
         Outcome::Plain(Code::BadArguments)
@@ -100,7 +103,7 @@ impl Client {
     /// Whether there is no next command, or it has to wait.
     #[tactic(auto, unfolding(crate::specs::Standing::client_of))]
     pub(crate) fn waits(&self) -> bool
-        ensures { result ≡ waits_next (client_of self.now) (next_asked (client_of self.now)) }
+        ensures { result ≡ waits_next (client_of self.now) (next_ask (client_of self.now)) }
     {
         match self.next() {
             None => true,
@@ -121,17 +124,17 @@ impl Client {
         post: &mut Post,
         user: &mut UserStore,
     ) -> Result<(Op, Lines), NoMemory>
-        requires begins { waits_next (client_of self.old) (next_asked (client_of self.old)) ≡ false }
+        requires begins { waits_next (client_of self.old) (next_ask (client_of self.old)) ≡ false }
         requires free { self.old.reading ≡ None }
         requires session { is_session (post_of post.old).sessions self.old.session ≡ true }
         requires room { ((post_of post.old).lanes (lane.Session self.old.session)).given < 2 ^ 63 - 1 }
         requires seen { IsNumber self.old.seen }
-        requires request { IsLimitedAsk (next_asked (client_of self.old)) }
-        ensures op { (t : records.Meaning) (w : Watches) → IfOk result (λ r. r.0 ≡ or_failed t (post_of post.old) w (store_of user.old) (next_command_op (post_of post.old) (store_of user.old) (client_of self.old) (next_asked (client_of self.old)))) }
-        ensures lines { (told : Option Tell) → IfOk result (λ r. r.1 ≡ own_lines told r.0 (client_of self.old)) }
+        requires request { IsLimitedAsk (next_ask (client_of self.old)) }
+        ensures op { (t : records.Meaning) (w : Watches) (told : Option Tell) → IfOk result (λ r. r.0 ≡ or_failed t (post_of post.old) w (store_of user.old) (begin_asked by_outcome (sight_by (post_of post.old) w (store_of user.old) told (client_of self.old)) (client_of self.old).client (next_ask (client_of self.old)))) }
+        ensures lines { (s : Sight) → IfOk result (λ r. r.1 ≡ lines_in s r.0 (client_of self.old)) }
         ensures table { (t : records.Meaning) → IfOk result (λ r. t ≡ table_by r.0 t) }
         ensures watches { (w : Watches) → IfOk result (λ r. w ≡ watches_by (client_of self.old) r.0 w) }
-        ensures client { (told : Option Tell) → IfOk result (λ r. client_of self.new ≡ made_by (store_of user.old) told r.0 (client_of self.old)) }
+        ensures client { (w : Watches) (told : Option Tell) → IfOk result (λ r. client_of self.new ≡ made_by (post_of post.old) w (store_of user.old) told r.0 (client_of self.old)) }
         ensures post { IfOk result (λ r. post_of post.new ≡ post_by (client_of self.old) r.0 (post_of post.old)) }
         ensures user { IfOk result (λ r. store_of user.new ≡ user_by r.0 (store_of user.old)) }
     {
@@ -150,17 +153,17 @@ impl Client {
         user: &mut UserStore,
         want: Want,
     ) -> Result<(Op, Lines), NoMemory>
-        requires wants { Wants (next_asked (client_of self.old)) (want_as want) }
+        requires wants { Wants (next_ask (client_of self.old)) (want_as want) }
         requires free { self.old.reading ≡ None }
         requires session { is_session (post_of post.old).sessions self.old.session ≡ true }
         requires room { ((post_of post.old).lanes (lane.Session self.old.session)).given < 2 ^ 63 - 1 }
         requires seen { IsNumber self.old.seen }
-        requires request { IsLimitedAsk (next_asked (client_of self.old)) }
-        ensures op { (t : records.Meaning) (w : Watches) → IfOk result (λ r. r.0 ≡ or_failed t (post_of post.old) w (store_of user.old) (begin_op (post_of post.old) (store_of user.old) self.old.session (self.old.begun + 1) self.old.closed (want_as want))) }
-        ensures lines { (told : Option Tell) → IfOk result (λ r. r.1 ≡ own_lines told r.0 (client_of self.old)) }
+        requires request { IsLimitedAsk (next_ask (client_of self.old)) }
+        ensures op { (t : records.Meaning) (w : Watches) (told : Option Tell) → IfOk result (λ r. r.0 ≡ or_failed t (post_of post.old) w (store_of user.old) (begin_op (sight_by (post_of post.old) w (store_of user.old) told (client_of self.old)) (self.old.begun + 1) self.old.closed (want_as want))) }
+        ensures lines { (s : Sight) → IfOk result (λ r. r.1 ≡ lines_in s r.0 (client_of self.old)) }
         ensures table { (t : records.Meaning) → IfOk result (λ r. t ≡ table_by r.0 t) }
         ensures watches { (w : Watches) → IfOk result (λ r. w ≡ watches_by (client_of self.old) r.0 w) }
-        ensures client { (told : Option Tell) → IfOk result (λ r. client_of self.new ≡ made_by (store_of user.old) told r.0 (client_of self.old)) }
+        ensures client { (w : Watches) (told : Option Tell) → IfOk result (λ r. client_of self.new ≡ made_by (post_of post.old) w (store_of user.old) told r.0 (client_of self.old)) }
         ensures post { IfOk result (λ r. post_of post.new ≡ post_by (client_of self.old) r.0 (post_of post.old)) }
         ensures user { IfOk result (λ r. store_of user.new ≡ user_by r.0 (store_of user.old)) }
     {
@@ -184,9 +187,9 @@ impl Client {
     // its next command is sent or refused under this number
     #[tactic(auto, unfolding(crate::specs::Standing::client_of))]
     fn join(&mut self, k: u64, outcome: Outcome) -> Result<(), NoMemory>
-        requires next { is_some (next_asked (client_of self.old)) ≡ true }
+        requires next { is_some (next_ask (client_of self.old)) ≡ true }
         requires free { self.old.reading ≡ None }
-        ensures { OnOk result (client_of self.new ≡ holding (begin_with (self.old.begun + 1) k outcome (client_of self.old).client) (client_of self.old)) }
+        ensures { OnOk result (client_of self.new ≡ holding (joined (self.old.begun + 1) (unanswered (self.old.begun + 1) k outcome) (client_of self.old).client) (client_of self.old)) }
     {
         let command = self.place();
         self.sent.push(Unanswered {
@@ -201,14 +204,14 @@ impl Client {
     // it refuses its next command itself, which is unfit, or comes after its session was closed
     #[tactic(auto, unfolding(crate::specs::Standing::client_of))]
     fn refuse(&mut self, unfit: bool) -> Result<(Op, Lines), NoMemory>
-        requires next { is_some (next_asked (client_of self.old)) ≡ true }
-        requires unfit { is_unfit (next_asked (client_of self.old)) ≡ unfit }
+        requires next { is_some (next_ask (client_of self.old)) ≡ true }
+        requires unfit { is_unfit (next_ask (client_of self.old)) ≡ unfit }
         requires free { self.old.reading ≡ None }
         ensures op { IfOk result (λ r. r.0 ≡ op.Local self.old.session (self.old.begun + 1)) }
-        ensures lines { (told : Option Tell) → IfOk result (λ r. r.1 ≡ own_lines told r.0 (client_of self.old)) }
+        ensures lines { (s : Sight) → IfOk result (λ r. r.1 ≡ lines_in s r.0 (client_of self.old)) }
         ensures table { (t : records.Meaning) → IfOk result (λ r. t ≡ table_by r.0 t) }
         ensures watches { (w : Watches) → IfOk result (λ r. w ≡ watches_by (client_of self.old) r.0 w) }
-        ensures client { (u : store.Meaning) (told : Option Tell) → IfOk result (λ r. client_of self.new ≡ made_by u told r.0 (client_of self.old)) }
+        ensures client { (s : Sight) (told : Option Tell) → IfOk result (λ r. client_of self.new ≡ made_in s told r.0 (client_of self.old)) }
     {
         let session = self.session;
         let command = self.place();
@@ -219,17 +222,17 @@ impl Client {
     // it sends its next command, a write; where the post fails it answers as if it had been sent
     #[tactic(auto, unfolding(crate::specs::Standing::client_of))]
     fn send(&mut self, post: &mut Post, request: Request) -> Result<(Op, Lines), NoMemory>
-        requires next { IsNextWrite (next_asked (client_of self.old)) request }
+        requires next { IsNextWrite (next_ask (client_of self.old)) request }
         requires free { self.old.reading ≡ None }
         requires session { is_session (post_of post.old).sessions self.old.session ≡ true }
         requires room { ((post_of post.old).lanes (lane.Session self.old.session)).given < 2 ^ 63 - 1 }
         requires seen { IsNumber self.old.seen }
         requires request { IsLimitedRequest request }
         ensures op { IfOk result (λ r. r.0 ≡ failed_if (post_of post.old).armed (op.Send self.old.session (self.old.begun + 1) (((post_of post.old).lanes (lane.Session self.old.session)).given + 1))) }
-        ensures lines { (told : Option Tell) → IfOk result (λ r. r.1 ≡ own_lines told r.0 (client_of self.old)) }
+        ensures lines { (s : Sight) → IfOk result (λ r. r.1 ≡ lines_in s r.0 (client_of self.old)) }
         ensures table { (t : records.Meaning) → IfOk result (λ r. t ≡ table_by r.0 t) }
         ensures watches { (w : Watches) → IfOk result (λ r. w ≡ watches_by (client_of self.old) r.0 w) }
-        ensures client { (u : store.Meaning) (told : Option Tell) → IfOk result (λ r. client_of self.new ≡ made_by u told r.0 (client_of self.old)) }
+        ensures client { (s : Sight) (told : Option Tell) → IfOk result (λ r. client_of self.new ≡ made_in s told r.0 (client_of self.old)) }
         ensures post { IfOk result (λ r. post_of post.new ≡ post_by (client_of self.old) r.0 (post_of post.old)) }
     {
         let session = self.session;
@@ -256,13 +259,13 @@ impl Client {
     // it makes its next command, a read of this path
     #[tactic(auto, unfolding(crate::specs::Standing::client_of))]
     fn read(&mut self, user: &mut UserStore, path: &Path) -> Result<(Op, Lines), NoMemory>
-        requires next { IsNextRead (next_asked (client_of self.old)) path.now }
+        requires next { IsNextRead (next_ask (client_of self.old)) path.now }
         requires free { self.old.reading ≡ None }
         ensures op { IfOk result (λ r. r.0 ≡ failed_if (store_of user.old).armed (op.Read self.old.session (self.old.begun + 1) ((store_of user.old).records path.now).stamp)) }
-        ensures lines { (told : Option Tell) → IfOk result (λ r. r.1 ≡ own_lines told r.0 (client_of self.old)) }
+        ensures lines { (s : Sight) → IfOk result (λ r. r.1 ≡ lines_in s r.0 (client_of self.old)) }
         ensures table { (t : records.Meaning) → IfOk result (λ r. t ≡ table_by r.0 t) }
         ensures watches { (w : Watches) → IfOk result (λ r. w ≡ watches_by (client_of self.old) r.0 w) }
-        ensures client { (told : Option Tell) → IfOk result (λ r. client_of self.new ≡ made_by (store_of user.old) told r.0 (client_of self.old)) }
+        ensures client { (q : queues.Meaning) (w : Watches) (told : Option Tell) → IfOk result (λ r. client_of self.new ≡ made_by q w (store_of user.old) told r.0 (client_of self.old)) }
         ensures user { IfOk result (λ r. store_of user.new ≡ user_by r.0 (store_of user.old)) }
     {
         let session = self.session;

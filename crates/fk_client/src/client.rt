@@ -1,6 +1,6 @@
 ghost use Rattle.std.specs.Prelude.{◌≡◌, ◌<◌, ◌+◌, ◌^◌, length, true, is_some, option_map, option_copied, OnSome};
-ghost use Rattle.fk_client.specs.Meaning.{asks_read, is_finished, new_client, next_asked};
-ghost use Rattle.fk_spec.specs.Plan.{ask_of, asks_of, item_after};
+ghost use Rattle.fk_client.specs.Meaning.{asks_read, is_finished, new_client, next_ask};
+ghost use Rattle.fk_spec.specs.Plan.{ask_of, asks_of, nth};
 
 use crate::lists::command_after;
 use crate::reading::Reading;
@@ -27,7 +27,7 @@ pub struct Client {
     /// Whether it knows that its session is closed.
     pub(crate) closed: bool,
     ghost few: { length commands < 2 ^ 32 },
-    ghost reads: { is_some reading ≡ true → asks_read (item_after (asks_of commands) begun) ≡ true },
+    ghost reads: { is_some reading ≡ true → asks_read (nth (asks_of commands) (begun + 1)) ≡ true },
 }
 
 impl Client {
@@ -56,7 +56,7 @@ impl Client {
     /// Its next command.
     #[tactic(auto, unfolding(crate::specs::Standing::client_of))]
     pub(crate) fn next(&self) -> Option<&Command>
-        ensures next { option_map ask_of (option_copied result) ≡ next_asked (client_of self.now) }
+        ensures next { option_map ask_of (option_copied result) ≡ next_ask (client_of self.now) }
         ensures within { OnSome result (self.now.begun < length self.now.commands) }
     {
         command_after(self.commands.as_slice(), self.begun)
@@ -65,7 +65,7 @@ impl Client {
     /// The place of its next command, from 1.
     #[tactic(auto, unfolding(crate::specs::Standing::client_of))]
     pub(crate) fn place(&self) -> u32
-        requires { is_some (next_asked (client_of self.now)) ≡ true }
+        requires { is_some (next_ask (client_of self.now)) ≡ true }
         ensures { result ≡ self.now.begun + 1 }
     {
         let Some(_) = self.next() else {

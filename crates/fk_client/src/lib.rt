@@ -4,6 +4,7 @@
 
 mod beginning;
 mod client;
+mod knowing;
 mod lists;
 mod looking;
 mod pinging;
@@ -17,5 +18,6 @@ mod unanswered;
 mod want;
 
 pub use client::Client;
+pub use knowing::{comes_to_the_same, makes_the_same_op};
 pub use reading::Reading;
 pub use unanswered::{Outcome, Unanswered};

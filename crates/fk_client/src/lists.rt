@@ -1,10 +1,9 @@
 //! What a client finds in its lists.
 
-ghost use Rattle.std.specs.Prelude.{◌≡◌, ◌≤◌, ◌<◌, ℕ, length, Some, None, option_copied, option_map, OnOk, OnSome};
-ghost use Rattle.fk_spec.specs.Client.{contains, first_held, without, with_held};
-ghost use Rattle.fk_spec.specs.Plan.{ask_of, asks_of, item_after, nth};
-ghost use Rattle.fk_client.specs.Meaning.{all_go_on};
-ghost use Rattle.fk_client.specs.Unready.{place_of, with_outcome};
+ghost use Rattle.std.specs.Prelude.{◌≡◌, ◌≤◌, ◌<◌, ◌+◌, ℕ, length, Some, None, option_copied, option_map, OnOk, OnSome};
+ghost use Rattle.fk_spec.specs.Client.{all_go_on, contains, first_held, without, with_held, with_told};
+ghost use Rattle.fk_spec.specs.Plan.{ask_of, asks_of, nth};
+ghost use Rattle.fk_client.specs.Known.{by_outcome, place_of};
 
 use crate::unanswered::{Outcome, Unanswered};
 use crate::want::waits;
@@ -14,7 +13,7 @@ use fk_script::Command;
 /// The command after this many.
 #[tactic(auto, using(crate::proofs::Asking::item_within, crate::proofs::Asking::item_past))]
 pub fn command_after(commands: &[Command], count: u32) -> Option<&Command>
-    ensures command { option_map ask_of (option_copied result) ≡ item_after (asks_of commands.now) count }
+    ensures command { option_map ask_of (option_copied result) ≡ nth (asks_of commands.now) (count + 1) }
     ensures within { OnSome result (count < length commands.now) }
 {
     let place = count as usize;
@@ -63,7 +62,7 @@ pub fn first_held(epoch: &[u64], held: &[u64]) -> Option<u64>
 
 /// Whether none of these has to be waited for.
 pub fn all_go_on(commands: &[Command], sent: &[Unanswered]) -> bool
-    ensures { result ≡ all_go_on (asks_of commands.now) sent.now }
+    ensures { result ≡ all_go_on by_outcome (asks_of commands.now) sent.now }
 {
     match sent {
         [] => true,
@@ -94,7 +93,7 @@ fn place_of(sent: &[Unanswered], k: u64) -> usize
 /// The command that was sent under a number, where nothing is known of it yet, has this outcome.
 #[tactic(auto, using(crate::proofs::Settling::settled_there, crate::proofs::Settling::settled_nowhere))]
 pub fn settle(sent: &mut Vec<Unanswered>, k: u64, outcome: Outcome)
-    ensures { sent.new.items ≡ with_outcome k outcome sent.old.items }
+    ensures { sent.new.items ≡ with_told by_outcome k outcome sent.old.items }
 {
     let place = place_of(sent.as_slice(), k);
     if place < sent.len() {

@@ -1,20 +1,24 @@
 //! A client looks before it prints.
 
 ghost use Rattle.std.specs.Prelude.{◌≡◌, ◌++◌, ◌∷◌, [], ◌+◌, true, is_some, Option, Some, IfOk, OnOk};
-ghost use Rattle.fk_user.specs.Meaning as store;
+ghost use Rattle.fk_queue.specs.Meaning as queues;
+ghost use Rattle.fk_store.specs.Meaning as records;
 ghost use Rattle.fk_user.specs.Meaning.{called};
 ghost use Rattle.fk_user.specs.Stored.{store_of};
 ghost use Rattle.fk_wire.specs.declared.message.Tell.{Tell};
-ghost use Rattle.fk_spec.specs.Plan.{asks_of};
-ghost use Rattle.fk_spec.specs.Client.{is_close, registers};
+ghost use Rattle.fk_watch.specs.Meaning.{Watches};
+ghost use Rattle.fk_spec.specs.Plan.{asks_of, nth};
+ghost use Rattle.fk_spec.specs.Client as rules;
+ghost use Rattle.fk_spec.specs.Client.{answered, close_if, is_close, look_op, looked, looked_for, registers, target_of, target_sent};
+ghost use Rattle.fk_spec.specs.Replies.{first_line, line_for, looked_lines, read_line};
+ghost use Rattle.fk_spec.specs.Sight.{Sight};
 ghost use Rattle.fk_client.specs.Answering.{looked_at, sets_watch, shown_found};
-ghost use Rattle.fk_client.specs.Looking.{look_op, target_of, target_sent};
-ghost use Rattle.fk_client.specs.Meaning.{asked, asks_read, holding, next_asked};
-ghost use Rattle.fk_client.specs.Next as next;
-ghost use Rattle.fk_client.specs.Next.{answered, close_if, looked, looked_for};
+ghost use Rattle.fk_client.specs.Known.{by_outcome, reading_as, target_as, target_in};
+ghost use Rattle.fk_client.specs.Meaning.{asks_read, holding, next_ask};
 ghost use Rattle.fk_client.specs.Operation.{failed_if};
-ghost use Rattle.fk_client.specs.Services.{user_by};
-ghost use Rattle.fk_client.specs.Shown.{first_line, line_for, looked_lines, made_by, own_lines, read_line, seeing};
+ghost use Rattle.fk_client.specs.Services.{post_by, table_by, user_by, watches_by};
+ghost use Rattle.fk_client.specs.Shown.{lines_in, made_in, seeing, wording_of};
+ghost use Rattle.fk_client.specs.Sighting.{sight_by};
 ghost use Rattle.fk_client.specs.Standing.{client_of};
 
 use crate::client::Client;
@@ -68,7 +72,7 @@ fn look_at(user: &mut UserStore, held: &[u64], number: u64) -> Looked
 
 // the first reply, where it needs a look
 fn target_sent(sent: &[Unanswered]) -> Option<Target>
-    ensures { result ≡ target_sent sent.now }
+    ensures { target_in result ≡ target_sent by_outcome sent.now }
 {
     match sent {
         [] => None,
@@ -129,7 +133,7 @@ impl Client {
     /// What it looks for, where it does.
     #[tactic(auto, unfolding(crate::specs::Standing::client_of), using(crate::proofs::Asking::read_next))]
     pub(crate) fn target(&self) -> Option<Target>
-        ensures { result ≡ target_of (client_of self.now) (client_of self.now).client.reading }
+        ensures { target_in result ≡ target_of by_outcome (client_of self.now).seen (client_of self.now).client (client_of self.now).client.reading }
     {
         let sent = target_sent(self.sent.as_slice());
         match &self.reading {
@@ -153,10 +157,13 @@ impl Client {
         user: &mut UserStore,
         target: Target,
     ) -> Result<(Op, Lines), NoMemory>
-        ensures op { IfOk result (λ r. r.0 ≡ failed_if (store_of user.old).armed (look_op (store_of user.old) self.old.session self.old.held.items target)) }
-        ensures lines { (told : Option Tell) → IfOk result (λ r. r.1 ≡ own_lines told r.0 (client_of self.old)) }
-        ensures client { (u : store.Meaning) (told : Option Tell) → IfOk result (λ r. client_of self.new ≡ made_by u told r.0 (client_of self.old)) }
+        ensures op { (q : queues.Meaning) (w : Watches) (told : Option Tell) → IfOk result (λ r. r.0 ≡ failed_if (store_of user.old).armed (look_op (sight_by q w (store_of user.old) told (client_of self.old)) self.old.held.items (target_as target))) }
+        ensures lines { (s : Sight) → IfOk result (λ r. r.1 ≡ lines_in s r.0 (client_of self.old)) }
+        ensures client { (s : Sight) (told : Option Tell) → IfOk result (λ r. client_of self.new ≡ made_in s told r.0 (client_of self.old)) }
         ensures user { IfOk result (λ r. store_of user.new ≡ user_by r.0 (store_of user.old)) }
+        ensures table { (t : records.Meaning) → IfOk result (λ r. t ≡ table_by r.0 t) }
+        ensures post { (q : queues.Meaning) → IfOk result (λ r. q ≡ post_by (client_of self.old) r.0 q) }
+        ensures watches { (w : Watches) → IfOk result (λ r. w ≡ watches_by (client_of self.old) r.0 w) }
     {
         let session = self.session;
         let command = target.command;
@@ -196,8 +203,8 @@ impl Client {
     // the look was ok
     #[tactic(auto, unfolding(crate::specs::Standing::client_of))]
     fn looked(&mut self) -> Result<Lines, NoMemory>
-        ensures lines { IfOk result (λ ls. ls ≡ looked_lines (client_of self.old) (client_of self.old).client.reading) }
-        ensures client { OnOk result (client_of self.new ≡ seeing (looked_lines (client_of self.old) (client_of self.old).client.reading) (looked (client_of self.old) (client_of self.old).client.reading) (client_of self.old)) }
+        ensures lines { IfOk result (λ ls. ls ≡ looked_lines (wording_of self.old.session (asks_of self.old.commands)) self.old.seen (client_of self.old).client (client_of self.old).client.reading) }
+        ensures client { OnOk result (client_of self.new ≡ seeing (looked_lines (wording_of self.old.session (asks_of self.old.commands)) self.old.seen (client_of self.old).client (client_of self.old).client.reading) (looked by_outcome (asks_of self.old.commands) (client_of self.old).client.reading (client_of self.old).client) (client_of self.old)) }
     {
         match self.reading.take() {
             None => self.reply(),
@@ -208,8 +215,8 @@ impl Client {
     // the first reply is printed, and leaves the list
     #[tactic(auto, unfolding(crate::specs::Standing::client_of))]
     fn reply(&mut self) -> Result<Lines, NoMemory>
-        ensures lines { IfOk result (λ ls. ls ≡ first_line self.old.session (asks_of self.old.commands) self.old.sent.items) }
-        ensures client { OnOk result (client_of self.new ≡ seeing (first_line self.old.session (asks_of self.old.commands) self.old.sent.items) (looked_for (asks_of self.old.commands) self.old.sent.items (client_of self.old).client) (client_of self.old)) }
+        ensures lines { IfOk result (λ ls. ls ≡ first_line (wording_of self.old.session (asks_of self.old.commands)) self.old.sent.items) }
+        ensures client { OnOk result (client_of self.new ≡ seeing (first_line (wording_of self.old.session (asks_of self.old.commands)) self.old.sent.items) (looked_for by_outcome (asks_of self.old.commands) self.old.sent.items (client_of self.old).client) (client_of self.old)) }
     {
         let mut lines = Lines::new(self.alloc);
         if self.sent.is_empty() {
@@ -225,7 +232,7 @@ impl Client {
     // an answered close makes the session known as closed, and its watches no longer held
     #[tactic(auto, unfolding(crate::specs::Standing::client_of))]
     fn close_after(&mut self, command: u32)
-        ensures { client_of self.new ≡ holding (close_if (is_close (asked (client_of self.old) command)) (client_of self.old).client) (client_of self.old) }
+        ensures { client_of self.new ≡ holding (close_if (is_close (nth (asks_of self.old.commands) command)) (client_of self.old).client) (client_of self.old) }
     {
         let closes = match command_at(self.commands.as_slice(), command) {
             None => false,
@@ -240,9 +247,9 @@ impl Client {
     // a read that was looked at is answered, or waits for its registration
     #[tactic(auto, unfolding(crate::specs::Standing::client_of), using(crate::proofs::Asking::read_next, crate::proofs::Finding::sets_is))]
     fn read_on(&mut self, reading: Reading) -> Result<Lines, NoMemory>
-        requires reads { asks_read (next_asked (client_of self.old)) ≡ true }
-        ensures lines { IfOk result (λ ls. ls ≡ looked_lines (client_of self.old) (Some reading)) }
-        ensures client { OnOk result (client_of self.new ≡ seeing (looked_lines (client_of self.old) (Some reading)) (next.looked_at (registers (next_asked (client_of self.old)) reading.node) reading (client_of self.old).client) (client_of self.old)) }
+        requires reads { asks_read (next_ask (client_of self.old)) ≡ true }
+        ensures lines { IfOk result (λ ls. ls ≡ looked_lines (wording_of self.old.session (asks_of self.old.commands)) self.old.seen (client_of self.old).client (Some (reading_as reading))) }
+        ensures client { OnOk result (client_of self.new ≡ seeing (looked_lines (wording_of self.old.session (asks_of self.old.commands)) self.old.seen (client_of self.old).client (Some (reading_as reading))) (rules.looked_at (registers (next_ask (client_of self.old)) reading.node) (reading_as reading) (client_of self.old).client) (client_of self.old)) }
     {
         let Some(command) = self.next() else {
             unreachable!();
@@ -261,9 +268,9 @@ impl Client {
     /// Its read is answered.
     #[tactic(auto, unfolding(crate::specs::Standing::client_of), using(crate::proofs::Asking::read_next, crate::proofs::Finding::shown_is))]
     pub(crate) fn answer(&mut self, reading: Reading) -> Result<Lines, NoMemory>
-        requires reads { asks_read (next_asked (client_of self.old)) ≡ true }
-        ensures lines { IfOk result (λ ls. ls ≡ read_line (client_of self.old) reading ∷ []) }
-        ensures client { OnOk result (client_of self.new ≡ seeing (read_line (client_of self.old) reading ∷ []) (answered (client_of self.old).client) (client_of self.old)) }
+        requires reads { asks_read (next_ask (client_of self.old)) ≡ true }
+        ensures lines { IfOk result (λ ls. ls ≡ read_line self.old.session (asks_of self.old.commands) self.old.seen (self.old.begun + 1) (reading_as reading) ∷ []) }
+        ensures client { OnOk result (client_of self.new ≡ seeing (read_line self.old.session (asks_of self.old.commands) self.old.seen (self.old.begun + 1) (reading_as reading) ∷ []) (answered (client_of self.old).client) (client_of self.old)) }
     {
         let Some(command) = self.next() else {
             unreachable!();
@@ -276,9 +283,9 @@ impl Client {
     /// Its next command, a read, shows this, and is done.
     #[tactic(auto, unfolding(crate::specs::Standing::client_of), using(crate::proofs::Asking::read_next))]
     pub(crate) fn end(&mut self, shown: Shown) -> Result<Lines, NoMemory>
-        requires reads { asks_read (next_asked (client_of self.old)) ≡ true }
-        ensures lines { IfOk result (λ ls. ls ≡ line_for self.old.session (self.old.begun + 1) (next_asked (client_of self.old)) shown ∷ []) }
-        ensures client { OnOk result (client_of self.new ≡ seeing (line_for self.old.session (self.old.begun + 1) (next_asked (client_of self.old)) shown ∷ []) (answered (client_of self.old).client) (client_of self.old)) }
+        requires reads { asks_read (next_ask (client_of self.old)) ≡ true }
+        ensures lines { IfOk result (λ ls. ls ≡ line_for self.old.session (asks_of self.old.commands) (self.old.begun + 1) shown ∷ []) }
+        ensures client { OnOk result (client_of self.new ≡ seeing (line_for self.old.session (asks_of self.old.commands) (self.old.begun + 1) shown ∷ []) (answered (client_of self.old).client) (client_of self.old)) }
     {
         let mut lines = Lines::new(self.alloc);
         let place = self.place();

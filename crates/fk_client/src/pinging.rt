@@ -2,11 +2,11 @@
 
 ghost use Rattle.std.specs.Prelude.{◌≡◌, [], true, is_some, Option, Some, IfOk};
 ghost use Rattle.fk_print.specs.declared.op.Op.TheVariants as op;
-ghost use Rattle.fk_user.specs.Meaning as store;
+ghost use Rattle.fk_spec.specs.Sight.{Sight};
 ghost use Rattle.fk_wire.specs.declared.message.Tell.{Tell};
 ghost use Rattle.fk_client.specs.Operation.{failed_if};
 ghost use Rattle.fk_client.specs.Services.{table_by};
-ghost use Rattle.fk_client.specs.Shown.{made_by, own_lines};
+ghost use Rattle.fk_client.specs.Shown.{lines_in, made_in};
 ghost use Rattle.fk_client.specs.Standing.{client_of};
 
 use crate::client::Client;
@@ -25,8 +25,8 @@ impl Client {
         requires owed { self.old.owed ≡ Some ping }
         requires session { is_some ((T.meaning table.old).sessions self.old.session) ≡ true }
         ensures op { IfOk result (λ r. r.0 ≡ failed_if (T.meaning table.old).armed (op.Pong self.old.session ping)) }
-        ensures lines { (told : Option Tell) → IfOk result (λ r. r.1 ≡ own_lines told r.0 (client_of self.old)) }
-        ensures client { (u : store.Meaning) (told : Option Tell) → IfOk result (λ r. client_of self.new ≡ made_by u told r.0 (client_of self.old)) }
+        ensures lines { (s : Sight) → IfOk result (λ r. r.1 ≡ lines_in s r.0 (client_of self.old)) }
+        ensures client { (s : Sight) (told : Option Tell) → IfOk result (λ r. client_of self.new ≡ made_in s told r.0 (client_of self.old)) }
         ensures table { IfOk result (λ r. T.meaning table.new ≡ table_by r.0 (T.meaning table.old)) }
     {
         let session = self.session;

@@ -9,12 +9,17 @@ ghost use Rattle.fk_store.specs.Meaning as records;
 ghost use Rattle.fk_user.specs.Meaning as store;
 ghost use Rattle.fk_watch.specs.Kept.{watches_of};
 ghost use Rattle.fk_wire.specs.declared.message.Tell.{Tell};
-ghost use Rattle.fk_client.specs.Meaning.{asks_read, next_asked};
-ghost use Rattle.fk_client.specs.Next.{answered, keeping};
-ghost use Rattle.fk_client.specs.Operation.{failed_if, watch_or};
+ghost use Rattle.fk_spec.specs.Plan.{asks_of};
+ghost use Rattle.fk_spec.specs.Client.{answered, keeping, watch_or};
+ghost use Rattle.fk_spec.specs.Replies.{read_line};
+ghost use Rattle.fk_spec.specs.Sight.{Sight};
+ghost use Rattle.fk_client.specs.Known.{reading_as};
+ghost use Rattle.fk_client.specs.Meaning.{asks_read, next_ask};
+ghost use Rattle.fk_client.specs.Operation.{failed_if};
 ghost use Rattle.fk_client.specs.Registering.{after_registered, query_in, register_for, watch_of};
 ghost use Rattle.fk_client.specs.Services.{post_by, table_by, user_by, watches_by};
-ghost use Rattle.fk_client.specs.Shown.{made_by, own_lines, read_line, seeing};
+ghost use Rattle.fk_client.specs.Shown.{lines_in, made_in, seeing};
+ghost use Rattle.fk_client.specs.Sighting.{sight_by};
 ghost use Rattle.fk_client.specs.Standing.{client_of};
 
 use crate::client::Client;
@@ -78,9 +83,9 @@ impl Client {
     pub(crate) fn watch(&mut self, watches: &mut WatchTable) -> Result<(Op, Lines), NoMemory>
         requires reading { is_some self.old.reading ≡ true }
         requires room { (watches_of watches.old).given < 2 ^ 63 - 1 }
-        ensures op { IfOk result (λ r. r.0 ≡ failed_if (watches_of watches.old).armed (watch_or (watches_of watches.old) (client_of self.old) (client_of self.old).client.reading op.Idle)) }
-        ensures lines { (told : Option Tell) → IfOk result (λ r. r.1 ≡ own_lines told r.0 (client_of self.old)) }
-        ensures client { (u : store.Meaning) (told : Option Tell) → IfOk result (λ r. client_of self.new ≡ made_by u told r.0 (client_of self.old)) }
+        ensures op { (q : queues.Meaning) (u : store.Meaning) (told : Option Tell) → IfOk result (λ r. r.0 ≡ failed_if (watches_of watches.old).armed (watch_or (sight_by q (watches_of watches.old) u told (client_of self.old)) (client_of self.old).client (client_of self.old).client.reading op.Idle)) }
+        ensures lines { (s : Sight) → IfOk result (λ r. r.1 ≡ lines_in s r.0 (client_of self.old)) }
+        ensures client { (s : Sight) (told : Option Tell) → IfOk result (λ r. client_of self.new ≡ made_in s told r.0 (client_of self.old)) }
         ensures watches { IfOk result (λ r. watches_of watches.new ≡ watches_by (client_of self.old) r.0 (watches_of watches.old)) }
         ensures table { (t : records.Meaning) → IfOk result (λ r. t ≡ table_by r.0 t) }
         ensures post { (q : queues.Meaning) → IfOk result (λ r. q ≡ post_by (client_of self.old) r.0 q) }
@@ -123,9 +128,9 @@ impl Client {
     // its watch is held, and the read is answered
     #[tactic(auto, unfolding(crate::specs::Standing::client_of))]
     fn registered(&mut self, reading: Reading, watch: u64) -> Result<Lines, NoMemory>
-        requires reads { asks_read (next_asked (client_of self.old)) ≡ true }
-        ensures lines { IfOk result (λ ls. ls ≡ read_line (client_of self.old) reading ∷ []) }
-        ensures client { OnOk result (client_of self.new ≡ seeing (read_line (client_of self.old) reading ∷ []) (answered (keeping watch (client_of self.old).client)) (client_of self.old)) }
+        requires reads { asks_read (next_ask (client_of self.old)) ≡ true }
+        ensures lines { IfOk result (λ ls. ls ≡ read_line self.old.session (asks_of self.old.commands) self.old.seen (self.old.begun + 1) (reading_as reading) ∷ []) }
+        ensures client { OnOk result (client_of self.new ≡ seeing (read_line self.old.session (asks_of self.old.commands) self.old.seen (self.old.begun + 1) (reading_as reading) ∷ []) (answered (keeping watch (client_of self.old).client)) (client_of self.old)) }
     {
         hold(&mut self.held, watch)?;
         self.answer(reading)
@@ -134,8 +139,8 @@ impl Client {
     // the query of its next command, a read
     #[tactic(auto, unfolding(crate::specs::Standing::client_of))]
     fn query(&self) -> Result<Query, NoMemory>
-        requires reads { asks_read (next_asked (client_of self.now)) ≡ true }
-        ensures { IfOk result (λ q. query_in (next_asked (client_of self.now)) ≡ Some q) }
+        requires reads { asks_read (next_ask (client_of self.now)) ≡ true }
+        ensures { IfOk result (λ q. query_in (next_ask (client_of self.now)) ≡ Some q) }
     {
         let Some(command) = self.next() else {
             unreachable!();

@@ -1,13 +1,14 @@
 //! The replies of a client.
 
 ghost use Rattle.std.specs.Prelude.{◌≡◌, ◌+◌, ◌<◌, ◌++◌, ◌∷◌, [], ℕ, Some, None, MatchOption, option_copied, option_map, IfOk, OnOk};
+ghost use Rattle.fk_print.specs.declared.line.Line.TheVariants as line;
 ghost use Rattle.fk_tree.specs.Apply.{part_replies, part_reply_of};
-ghost use Rattle.fk_tree.specs.Ask.{answer_of_node};
 ghost use Rattle.fk_spec.specs.Plan.{ask_of, asks_of, nth, want_of};
-ghost use Rattle.fk_spec.specs.Replies.{shown_answer, shown_reply, verb_asked};
+ghost use Rattle.fk_spec.specs.Client.{ready_first, without_ready};
+ghost use Rattle.fk_spec.specs.Replies.{reply_line, reply_lines, shown_reply, verb_asked};
 ghost use Rattle.fk_spec.specs.Shown.{seen_lines};
-ghost use Rattle.fk_client.specs.Shown.{line_for, reply_line, reply_lines, reply_told, shown_asked, shown_commit, shown_done, shown_outcome, shown_read};
-ghost use Rattle.fk_client.specs.Unready.{is_first_ready, ready_first, without_ready};
+ghost use Rattle.fk_client.specs.Known.{by_outcome, is_first_ready};
+ghost use Rattle.fk_client.specs.Shown.{reply_told, shown_commit, shown_done, shown_outcome, wording_of};
 
 use crate::lists::command_at;
 use crate::printing::print;
@@ -144,7 +145,7 @@ fn verb_asked(command: Option<&Command>) -> Verb
 
 /// The reply to a command.
 pub fn line_for(session: u32, command: u32, asked: Option<&Command>, shown: Shown) -> Line
-    ensures { result ≡ line_for session command (option_map ask_of (option_copied asked.entry)) shown }
+    ensures { result ≡ line.Reply session command (verb_asked (option_map ask_of (option_copied asked.entry))) shown }
 {
     Line::Reply {
         session,
@@ -161,7 +162,7 @@ pub fn reply_line(
     commands: &[Command],
     unanswered: &Unanswered,
 ) -> Result<Line, NoMemory>
-    ensures { IfOk result (λ l. l ≡ reply_line session (asks_of commands.now) unanswered.now) }
+    ensures { IfOk result (λ l. l ≡ reply_line (wording_of session (asks_of commands.now)) unanswered.now) }
 {
     let command = command_at(commands, unanswered.command);
     let shown = shown_outcome(alloc, command, &unanswered.outcome)?;
@@ -186,9 +187,9 @@ pub fn flush(
     seen: &mut u64,
     lines: &mut Lines,
 ) -> Result<(), NoMemory>
-    ensures sent { OnOk result (sent.new.items ≡ without_ready sent.old.items) }
-    ensures lines { OnOk result (lines.new ≡ lines.old ++ reply_lines session (asks_of commands.now) (ready_first sent.old.items)) }
-    ensures seen { OnOk result (seen.new ≡ seen_lines session (reply_lines session (asks_of commands.now) (ready_first sent.old.items)) seen.old) }
+    ensures sent { OnOk result (sent.new.items ≡ without_ready by_outcome sent.old.items) }
+    ensures lines { OnOk result (lines.new ≡ lines.old ++ reply_lines (wording_of session (asks_of commands.now)) (ready_first by_outcome sent.old.items)) }
+    ensures seen { OnOk result (seen.new ≡ seen_lines session (reply_lines (wording_of session (asks_of commands.now)) (ready_first by_outcome sent.old.items)) seen.old) }
 {
     'flushing: while is_first_ready(sent.as_slice()) {
         let first = sent.remove(0);

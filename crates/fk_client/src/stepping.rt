@@ -11,7 +11,8 @@ ghost use Rattle.fk_client.specs.Fit.{IsFit};
 ghost use Rattle.fk_client.specs.Idle.{IdleIsExact, is_idle};
 ghost use Rattle.fk_client.specs.Operation.{step_op};
 ghost use Rattle.fk_client.specs.Services.{after_step, lines_after_step, post_by, table_by, user_by, watches_by};
-ghost use Rattle.fk_client.specs.Shown.{made_by, own_lines, printed, ready_lines};
+ghost use Rattle.fk_client.specs.Shown.{lines_in, made_by, printed, ready_lines};
+ghost use Rattle.fk_client.specs.Sighting.{sight_by};
 ghost use Rattle.fk_client.specs.Standing.{client_of};
 ghost use Rattle.fk_client.specs.Told.{IsTold};
 
@@ -52,8 +53,8 @@ impl Client {
     ) -> Result<(Op, Lines), NoMemory>
         requires { IsFit (T.meaning table.old) (post_of post.old) (watches_of watches.old) (client_of self.old) }
         ensures op { (told : Option Tell) → IsTold ((post_of post.old).lanes (lane.Inbox self.old.session)).waiting told → IfOk result (λ r. r.0 ≡ step_op (T.meaning table.old) (post_of post.old) (watches_of watches.old) (store_of user.old) told (client_of self.old)) }
-        ensures lines { (told : Option Tell) → IsTold ((post_of post.old).lanes (lane.Inbox self.old.session)).waiting told → IfOk result (λ r. r.1 ≡ own_lines told r.0 (client_of self.old)) }
-        ensures client { (told : Option Tell) → IsTold ((post_of post.old).lanes (lane.Inbox self.old.session)).waiting told → IfOk result (λ r. client_of self.new ≡ made_by (store_of user.old) told r.0 (client_of self.old)) }
+        ensures lines { (told : Option Tell) → IsTold ((post_of post.old).lanes (lane.Inbox self.old.session)).waiting told → IfOk result (λ r. r.1 ≡ lines_in (sight_by (post_of post.old) (watches_of watches.old) (store_of user.old) told (client_of self.old)) r.0 (client_of self.old)) }
+        ensures client { (told : Option Tell) → IsTold ((post_of post.old).lanes (lane.Inbox self.old.session)).waiting told → IfOk result (λ r. client_of self.new ≡ made_by (post_of post.old) (watches_of watches.old) (store_of user.old) told r.0 (client_of self.old)) }
         ensures table { IfOk result (λ r. T.meaning table.new ≡ table_by r.0 (T.meaning table.old)) }
         ensures post { IfOk result (λ r. post_of post.new ≡ post_by (client_of self.old) r.0 (post_of post.old)) }
         ensures watches { IfOk result (λ r. watches_of watches.new ≡ watches_by (client_of self.old) r.0 (watches_of watches.old)) }

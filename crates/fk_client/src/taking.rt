@@ -1,6 +1,6 @@
 //! A client takes the message at the head of its inbox.
 
-ghost use Rattle.std.specs.Prelude.{◌≡◌, [], true, is_some, None, Option, Some, IfOk, OnOk};
+ghost use Rattle.std.specs.Prelude.{◌≡◌, [], true, if◌then◌else◌, is_some, None, Option, Some, IfOk, OnOk};
 ghost use Rattle.fk_queue.specs.Lanes.{is_session};
 ghost use Rattle.fk_queue.specs.Letters.{head_bytes, head_number};
 ghost use Rattle.fk_queue.specs.Meaning.{has_lane};
@@ -8,15 +8,19 @@ ghost use Rattle.fk_queue.specs.Posts.{post_of};
 ghost use Rattle.fk_queue.specs.declared.lane.Lane.{Lane};
 ghost use Rattle.fk_queue.specs.declared.lane.Lane.TheVariants as lane;
 ghost use Rattle.fk_store.specs.Meaning as records;
+ghost use Rattle.fk_queue.specs.Meaning as queues;
 ghost use Rattle.fk_user.specs.Meaning as store;
 ghost use Rattle.fk_watch.specs.Meaning.{Watches};
 ghost use Rattle.fk_wire.specs.declared.message.Tell.{Tell};
 ghost use Rattle.fk_wire.specs.declared.message.Tell.TheVariants as tell;
+ghost use Rattle.fk_spec.specs.Client.{contains, evicted, notified, settle_with, take_op, without_reading};
+ghost use Rattle.fk_spec.specs.Replies.{expired_lines, notice_of};
+ghost use Rattle.fk_client.specs.Known.{by_outcome};
 ghost use Rattle.fk_client.specs.Meaning.{holding};
-ghost use Rattle.fk_client.specs.Next.{evicted, settle_with, taken, without_reading};
-ghost use Rattle.fk_client.specs.Operation.{failed_if, take_op};
+ghost use Rattle.fk_client.specs.Operation.{failed_if};
 ghost use Rattle.fk_client.specs.Services.{post_by, table_by, user_by, watches_by};
-ghost use Rattle.fk_client.specs.Shown.{expired_lines, made_by, own_lines, seeing, taken_lines};
+ghost use Rattle.fk_client.specs.Shown.{lines_in, made_by, seeing};
+ghost use Rattle.fk_client.specs.Sighting.{firing_by, message_told, sight_by};
 ghost use Rattle.fk_client.specs.Standing.{client_of};
 ghost use Rattle.fk_client.specs.Told.{IsReadable, IsTold};
 
@@ -64,9 +68,9 @@ impl Client {
         requires session { is_session (post_of post.old).sessions self.old.session ≡ true }
         requires head { head_number ((post_of post.old).lanes (lane.Inbox self.old.session)) ≡ Some number }
         requires readable { IsReadable ((post_of post.old).lanes (lane.Inbox self.old.session)).waiting }
-        ensures op { (told : Tell) → IsTold ((post_of post.old).lanes (lane.Inbox self.old.session)).waiting (Some told) → IfOk result (λ r. r.0 ≡ failed_if (post_of post.old).armed (take_op self.old.session told)) }
-        ensures lines { (told : Tell) → IsTold ((post_of post.old).lanes (lane.Inbox self.old.session)).waiting (Some told) → IfOk result (λ r. r.1 ≡ own_lines (Some told) r.0 (client_of self.old)) }
-        ensures client { (u : store.Meaning) (told : Tell) → IsTold ((post_of post.old).lanes (lane.Inbox self.old.session)).waiting (Some told) → IfOk result (λ r. client_of self.new ≡ made_by u (Some told) r.0 (client_of self.old)) }
+        ensures op { (told : Tell) → IsTold ((post_of post.old).lanes (lane.Inbox self.old.session)).waiting (Some told) → IfOk result (λ r. r.0 ≡ failed_if (post_of post.old).armed (take_op self.old.session (message_told told))) }
+        ensures lines { (q : queues.Meaning) (w : Watches) (u : store.Meaning) (told : Tell) → IsTold ((post_of post.old).lanes (lane.Inbox self.old.session)).waiting (Some told) → IfOk result (λ r. r.1 ≡ lines_in (sight_by q w u (Some told) (client_of self.old)) r.0 (client_of self.old)) }
+        ensures client { (q : queues.Meaning) (w : Watches) (u : store.Meaning) (told : Tell) → IsTold ((post_of post.old).lanes (lane.Inbox self.old.session)).waiting (Some told) → IfOk result (λ r. client_of self.new ≡ made_by q w u (Some told) r.0 (client_of self.old)) }
         ensures post { IfOk result (λ r. post_of post.new ≡ post_by (client_of self.old) r.0 (post_of post.old)) }
         ensures table { (t : records.Meaning) → IfOk result (λ r. t ≡ table_by r.0 t) }
         ensures watches { (w : Watches) → IfOk result (λ r. w ≡ watches_by (client_of self.old) r.0 w) }
@@ -90,12 +94,12 @@ impl Client {
     #[tactic(auto, unfolding(crate::specs::Standing::client_of))]
     fn told(&mut self, message: Tell) -> Result<(Op, Lines), NoMemory>
         requires owed { self.old.owed ≡ None }
-        ensures op { IfOk result (λ r. r.0 ≡ take_op self.old.session message) }
+        ensures op { IfOk result (λ r. r.0 ≡ take_op self.old.session (message_told message)) }
         ensures table { (t : records.Meaning) → IfOk result (λ r. t ≡ table_by r.0 t) }
         ensures watches { (w : Watches) → IfOk result (λ r. w ≡ watches_by (client_of self.old) r.0 w) }
         ensures user { (u : store.Meaning) → IfOk result (λ r. u ≡ user_by r.0 u) }
-        ensures lines { IfOk result (λ r. r.1 ≡ taken_lines (client_of self.old) message) }
-        ensures client { OnOk result (client_of self.new ≡ seeing (taken_lines (client_of self.old) message) (taken message (client_of self.old).client) (client_of self.old)) }
+        ensures lines { (q : queues.Meaning) (w : Watches) (u : store.Meaning) → IfOk result (λ r. r.1 ≡ lines_in (sight_by q w u (Some message) (client_of self.old)) r.0 (client_of self.old)) }
+        ensures client { (q : queues.Meaning) (w : Watches) (u : store.Meaning) → IfOk result (λ r. client_of self.new ≡ made_by q w u (Some message) r.0 (client_of self.old)) }
     {
         let session = self.session;
         match message {
@@ -158,7 +162,7 @@ impl Client {
 
     #[tactic(auto, unfolding(crate::specs::Standing::client_of))]
     fn settle(&mut self, k: u64, outcome: Outcome)
-        ensures { client_of self.new ≡ seeing [] (settle_with k outcome (client_of self.old).client) (client_of self.old) }
+        ensures { client_of self.new ≡ seeing [] (settle_with by_outcome k (Some outcome) (client_of self.old).client) (client_of self.old) }
     {
         settle(&mut self.sent, k, outcome);
         self.give_up();
@@ -175,8 +179,8 @@ impl Client {
     // its session was evicted, which it prints where it didn't know that the session is closed
     #[tactic(auto, unfolding(crate::specs::Standing::client_of))]
     fn evict(&mut self, tx: u64) -> Result<Lines, NoMemory>
-        ensures lines { IfOk result (λ ls. ls ≡ expired_lines (client_of self.old) tx) }
-        ensures client { OnOk result (client_of self.new ≡ seeing (expired_lines (client_of self.old) tx) (evicted (client_of self.old).client) (client_of self.old)) }
+        ensures lines { IfOk result (λ ls. ls ≡ expired_lines self.old.closed self.old.session tx) }
+        ensures client { OnOk result (client_of self.new ≡ seeing (expired_lines self.old.closed self.old.session tx) (evicted (client_of self.old).client) (client_of self.old)) }
     {
         let mut lines = Lines::new(self.alloc);
         self.held = Vec::new(self.alloc);
@@ -196,8 +200,8 @@ impl Client {
     // a watch fired, which it prints where it holds the watch
     #[tactic(auto, unfolding(crate::specs::Standing::client_of))]
     fn notice(&mut self, tx: u64, fired: Fired) -> Result<Lines, NoMemory>
-        ensures lines { IfOk result (λ ls. ls ≡ taken_lines (client_of self.old) (tell.Watch tx fired)) }
-        ensures client { OnOk result (client_of self.new ≡ seeing (taken_lines (client_of self.old) (tell.Watch tx fired)) (taken (tell.Watch tx fired) (client_of self.old).client) (client_of self.old)) }
+        ensures lines { IfOk result (λ ls. ls ≡ (if contains fired.id self.old.held.items then notice_of self.old.session (Some (firing_by tx fired)) else [])) }
+        ensures client { OnOk result (client_of self.new ≡ seeing (if contains fired.id self.old.held.items then notice_of self.old.session (Some (firing_by tx fired)) else []) (notified fired.id (client_of self.old).client) (client_of self.old)) }
     {
         let mut lines = Lines::new(self.alloc);
         let is_held = contains(self.held.as_slice(), fired.id);

@@ -1,7 +1,8 @@
 //! The commands that a client sent or refused itself and didn't answer.
 
 ghost use Rattle.std.specs.Prelude.{◌≡◌};
-ghost use Rattle.fk_client.specs.Unready.{is_open, is_ready, number_looked_for, with_outcome};
+ghost use Rattle.fk_spec.specs.Client.{is_open, is_ready, number_looked_for};
+ghost use Rattle.fk_client.specs.Known.{known};
 
 use fk_base::{Code, Path};
 use fk_tree::Mades;
@@ -53,7 +54,7 @@ pub struct Unanswered {
 
 impl Outcome {
     pub(crate) fn is_open(&self) -> bool
-        ensures { result ≡ is_open self.now }
+        ensures { result ≡ is_open (known self.now) }
     {
         match self {
             Outcome::Open => true,
@@ -67,7 +68,7 @@ impl Outcome {
 
     /// The number of the tree that its line speaks of, which needs a look.
     pub(crate) fn number(&self) -> Option<u64>
-        ensures { result ≡ number_looked_for self.now }
+        ensures { result ≡ number_looked_for (known self.now) }
     {
         match self {
             Outcome::Done { tx, .. } => Some(*tx),
@@ -79,7 +80,7 @@ impl Outcome {
 
     /// Whether its line is printed without a look.
     pub(crate) fn is_ready(&self) -> bool
-        ensures { result ≡ is_ready self.now }
+        ensures { result ≡ is_ready (known self.now) }
     {
         match self {
             Outcome::Lost { .. } | Outcome::Plain(_) | Outcome::Expired { .. } => true,

@@ -9,7 +9,8 @@ use Rattle.fk_spec.specs.Follower.{Stage}
 use Rattle.fk_spec.specs.Follower as stage
 use Rattle.fk_follow.specs.Fit.{IsListOf, IsRead, IsReadAt}
 use Rattle.fk_follow.specs.Meaning.{Meaning}
-use Rattle.fk_follow.specs.Operation.{or_fault, step_op}
+use Rattle.fk_spec.specs.Failing.{or_fault}
+use Rattle.fk_follow.specs.Operation.{step_op}
 
 pub asks : (t : table.Meaning) (q : post.Meaning) (now time : ℕ) (owned : List PathNames) (m : Meaning) → m.follower.stage ≡ stage.Owned → step_op t q now time owned m ≡ or_fault t.armed m.inv word.Owned (op.Owned m.inv (length owned))
 asks t q now time owned m e = rw e refl

@@ -9,12 +9,12 @@ use Rattle.fk_print.specs.declared.event.Event.{Event}
 use Rattle.fk_print.specs.declared.event.Event.TheVariants as event
 use Rattle.fk_print.specs.declared.op.Op.{Op}
 use Rattle.fk_print.specs.declared.op.Op.TheVariants as op
-use Rattle.fk_spec.specs.Plan.{Plan, Ask, Want, Unfit, Writes, Reads, asked, is_client}
+use Rattle.fk_spec.specs.Plan.{Plan, Ask, Want, Unfit, Writes, Reads, asked, asks_in, is_client}
 use Rattle.fk_spec.specs.Start.{Task, Follows, Leads, Notifies, Probes, Push, starts_of, task_of, push_of, or_else}
 use Rattle.fk_spec.specs.Locks as locks
 use Rattle.fk_spec.specs.Locks.{granted, first_passed}
 use Rattle.fk_spec.specs.Settling.{settled_of}
-use Rattle.fk_spec.specs.Lanes.{session_head, leader_head, watch_head, Message, inbox_of}
+use Rattle.fk_spec.specs.Lanes.{session_head, leader_head, watch_head, Message}
 use Rattle.fk_spec.specs.Follower.{Follower, follower_op, session_op, lock_op, commit_op, commit_locked, refuse_op, expire_op, lost_op, ack_op}
 use Rattle.fk_spec.specs.Follower as follower
 use Rattle.fk_spec.specs.Leader.{leader_op, of_push, for_push, for_task}
@@ -24,7 +24,8 @@ use Rattle.fk_spec.specs.Teller as teller
 use Rattle.fk_spec.specs.Heartbeat.{beat_op}
 use Rattle.fk_spec.specs.Heartbeat as heartbeat
 use Rattle.fk_spec.specs.Function.{Place, Absent, Following, Leading, Telling, Beating, place_of, function_op, fault_op, in_flight}
-use Rattle.fk_spec.specs.Client.{Client, Sent, Reading, client_op, client_of, failed_op, pong_or, take_or, take_op, look_or, look_sent_or, look_op, watch_or, register_asked, next_command_op, begin_op, may_begin}
+use Rattle.fk_spec.specs.Sight.{sight_of, Sight}
+use Rattle.fk_spec.specs.Client.{by_result, target_of, pong_or, take_op, take_or, look_or, register_asked, watch_or, may_begin, begin_op, begin_asked, failed_op, client_of, client_op, Sent, Reading, Client, Target}
 use Rattle.fk_spec.specs.Next.{IsHistory, names_client, next_op, follow_op, lead_op, tell_op, crash_op}
 use Rattle.fk_law.specs.Sessions.{BeatsAClient, BeatsClients, HeartbeatsAreOfClients}
 
@@ -86,41 +87,34 @@ function_none p h n (Beating c s) = beat_none p h n c s
 
 -- Clients. --------------------------------------------------------------------------------------------
 
-look_none : (p : Plan) (h : List Entry) (c i : ℕ) (held : List ℕ) (number : ℕ) → NoBeat (look_op p c h i held number)
-look_none p h c i held number = grind (arith, nat_tests)
+look_none : (s : Sight) (held : List ℕ) (t : Option Target) (o : Op) → NoBeat o → NoBeat (look_or s held t o)
+look_none s held None o d = d
+look_none s held (Some t) o d = grind (arith, nat_tests)
 
-look_sent_none : (p : Plan) (h : List Entry) (c : ℕ) (x : Client) (ss : List Sent) (o : Op) → NoBeat o → NoBeat (look_sent_or p c h x ss o)
-look_sent_none p h c x [] o d = d
-look_sent_none p h c x (s ∷ ss) o d = grind (arith, look_none p h c s.command x.held)
-
-look_or_none : (p : Plan) (h : List Entry) (c : ℕ) (x : Client) (r : Option Reading) (o : Op) → NoBeat o → NoBeat (look_or p c h x r o)
-look_or_none p h c x None o d = look_sent_none p h c x x.sent o d
-look_or_none p h c x (Some r) o d = grind (arith, nat_tests, look_sent_none p h c x x.sent o d)
-
-register_none : (p : Plan) (h : List Entry) (c i number : ℕ) (a : Option Ask) → NoBeat (register_asked p c h i number a)
+register_none : (p : Plan) (h : List Entry) (c i number : ℕ) (a : Option Ask) → NoBeat (register_asked (sight_of p c h) i number a)
 register_none p h c i number a = grind (arith, nat_tests)
 
-watch_none : (p : Plan) (h : List Entry) (c : ℕ) (x : Client) (r : Option Reading) (o : Op) → NoBeat o → NoBeat (watch_or p c h x r o)
+watch_none : (p : Plan) (h : List Entry) (c : ℕ) (x : Client Sent) (r : Option Reading) (o : Op) → NoBeat o → NoBeat (watch_or (sight_of p c h) x r o)
 watch_none p h c x None o d = d
 watch_none p h c x (Some r) o d = register_none p h c _ _ _
 
-begin_none : (p : Plan) (h : List Entry) (c i : ℕ) (closed : Bool) (w : Want) → NoBeat (begin_op p c i h closed w)
+begin_none : (p : Plan) (h : List Entry) (c i : ℕ) (closed : Bool) (w : Want) → NoBeat (begin_op (sight_of p c h) i closed w)
 begin_none p h c i closed Unfit = tt
 begin_none p h c i true (Writes r) = tt
 begin_none p h c i false (Writes r) = tt
 begin_none p h c i true (Reads q watch) = tt
 begin_none p h c i false (Reads q watch) = tt
 
-next_command_none : (p : Plan) (h : List Entry) (c : ℕ) (x : Client) (a : Option Ask) → NoBeat (next_command_op p c h x a)
+next_command_none : (p : Plan) (h : List Entry) (c : ℕ) (x : Client Sent) (a : Option Ask) → NoBeat (begin_asked by_result (sight_of p c h) x a)
 next_command_none p h c x None = tt
-next_command_none p h c x (Some a) = cond_both (may_begin p c a x.sent) (begin_op p c (x.begun + 1) h x.closed a.want) op.Idle NoBeat (λ _. begin_none p h c (x.begun + 1) x.closed a.want) (λ _. tt)
+next_command_none p h c x (Some a) = cond_both (may_begin by_result (asks_in p c) a x.sent) (begin_op (sight_of p c h) (x.begun + 1) x.closed a.want) op.Idle NoBeat (λ _. begin_none p h c (x.begun + 1) x.closed a.want) (λ _. tt)
 
 message_none : (c : ℕ) (m : Message) → NoBeat (take_op c m)
 message_none c m = grind arith
 
-take_none : (c : ℕ) (ms : List Message) (o : Op) → NoBeat o → NoBeat (take_or c ms o)
-take_none c [] o d = d
-take_none c (m ∷ ms) o d = message_none c m
+take_none : (c : ℕ) (m : Option Message) (o : Op) → NoBeat o → NoBeat (take_or c m o)
+take_none c None o d = d
+take_none c (Some m) o d = message_none c m
 
 pong_none : (c : ℕ) (pings : List ℕ) (o : Op) → NoBeat o → NoBeat (pong_or c pings o)
 pong_none c [] o d = d
@@ -129,7 +123,8 @@ pong_none c (n ∷ ns) o d = tt
 client_none : (p : Plan) (h : List Entry) (c : ℕ) → NoBeat (client_op p c h)
 client_none p h c =
     let x = client_of p c h in
-    pong_none c x.owed _ (take_none c (inbox_of p c h) _ (look_or_none p h c x x.reading _ (watch_none p h c x x.reading _ (next_command_none p h c x (asked p c (x.begun + 1))))))
+    let s = sight_of p c h in
+    pong_none c x.owed _ (take_none c s.head _ (look_none s x.held (target_of by_result s.seen x x.reading) _ (watch_none p h c x x.reading _ (next_command_none p h c x (asked p c (x.begun + 1))))))
 
 failed_none : (o : Op) → NoBeat o → NoBeat (failed_op o)
 failed_none o d = grind arith

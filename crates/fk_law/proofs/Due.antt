@@ -12,7 +12,7 @@ use Rattle.fk_print.specs.declared.event.Event.{Event}
 use Rattle.fk_print.specs.declared.event.Event.TheVariants as event
 use Rattle.fk_print.specs.declared.op.Op.{Op}
 use Rattle.fk_print.specs.declared.op.Op.TheVariants as op
-use Rattle.fk_spec.specs.Plan.{Plan, Ask, Want, Unfit, Writes, Reads, asked}
+use Rattle.fk_spec.specs.Plan.{Plan, Ask, Want, Unfit, Writes, Reads, asked, asks_in}
 use Rattle.fk_spec.specs.Start.{Task, Follows, Leads, Notifies, Probes, Push, clock_of, starts_of, task_of, push_of, sends_of, written, request_in}
 use Rattle.fk_spec.specs.Locks as locks
 use Rattle.fk_spec.specs.Locks.{granted, first_passed}
@@ -29,7 +29,8 @@ use Rattle.fk_spec.specs.Heartbeat.{beat_op, probe_op, open_op, unanswered_op}
 use Rattle.fk_spec.specs.Pings.{Noted, noted_of, pong_of}
 use Rattle.fk_spec.specs.Heartbeat as heartbeat
 use Rattle.fk_spec.specs.Function.{Place, Absent, Following, Leading, Telling, Beating, place_of, function_op, fault_op}
-use Rattle.fk_spec.specs.Client.{Client, Sent, Reading, client_op, client_of, failed_op, pong_or, take_or, take_op, look_or, look_sent_or, look_op, held_op, watch_or, register_asked, next_command_op, begin_op, local_if, may_begin}
+use Rattle.fk_spec.specs.Sight.{first_message, sight_of, Sight}
+use Rattle.fk_spec.specs.Client.{by_result, target_of, pong_or, take_op, take_or, held_op, look_or, register_asked, watch_or, may_begin, local_if, begin_op, begin_asked, failed_op, client_of, client_op, Sent, Reading, Client, Target}
 use Rattle.fk_spec.specs.Next.{next_op, follow_op, lead_op, tell_op, crash_op}
 use Rattle.fk_law.specs.Due.{IsDue, IsFollower, Commits, IsPushOf, EveryEntryIsDue}
 
@@ -145,21 +146,14 @@ fault_due p h n x e = grind arith
 held_due : (p : Plan) (h : List Entry) (c i mark : ℕ) (o : Option ℕ) → IsDue p h (held_op c i mark o)
 held_due p h c i mark o = grind arith
 
-look_due : (p : Plan) (h : List Entry) (c i : ℕ) (held : List ℕ) (number : ℕ) → IsDue p h (look_op p c h i held number)
-look_due p h c i held number = grind (arith, nat_tests)
+look_due : (p : Plan) (h : List Entry) (s : Sight) (held : List ℕ) (t : Option Target) (o : Op) → IsDue p h o → IsDue p h (look_or s held t o)
+look_due p h s held None o d = d
+look_due p h s held (Some t) o d = grind (arith, nat_tests)
 
-look_sent_due : (p : Plan) (h : List Entry) (c : ℕ) (x : Client) (ss : List Sent) (o : Op) → IsDue p h o → IsDue p h (look_sent_or p c h x ss o)
-look_sent_due p h c x [] o d = d
-look_sent_due p h c x (s ∷ ss) o d = grind (arith, nat_tests)
-
-look_or_due : (p : Plan) (h : List Entry) (c : ℕ) (x : Client) (r : Option Reading) (o : Op) → IsDue p h o → IsDue p h (look_or p c h x r o)
-look_or_due p h c x None o d = look_sent_due p h c x x.sent o d
-look_or_due p h c x (Some r) o d = grind (arith, nat_tests, look_sent_due p h c x x.sent o d)
-
-register_due : (p : Plan) (h : List Entry) (c i number : ℕ) (a : Option Ask) → IsDue p h (register_asked p c h i number a)
+register_due : (p : Plan) (h : List Entry) (c i number : ℕ) (a : Option Ask) → IsDue p h (register_asked (sight_of p c h) i number a)
 register_due p h c i number a = grind (arith, nat_tests)
 
-watch_due : (p : Plan) (h : List Entry) (c : ℕ) (x : Client) (r : Option Reading) (o : Op) → IsDue p h o → IsDue p h (watch_or p c h x r o)
+watch_due : (p : Plan) (h : List Entry) (c : ℕ) (x : Client Sent) (r : Option Reading) (o : Op) → IsDue p h o → IsDue p h (watch_or (sight_of p c h) x r o)
 watch_due p h c x None o d = d
 watch_due p h c x (Some r) o d = register_due p h c _ _ _
 
@@ -167,15 +161,15 @@ send_due : (p : Plan) (h : List Entry) (c i : ℕ) (closed : Bool) (a : Ask) (r 
 send_due p h c i true a r e w = tt
 send_due p h c i false a r e w = (refl, r, ap written e ∙ ap request_in w)
 
-begin_due : (p : Plan) (h : List Entry) (c i : ℕ) (closed : Bool) (a : Ask) (w : Want) → asked p c i ≡ Some a → a.want ≡ w → IsDue p h (begin_op p c i h closed w)
+begin_due : (p : Plan) (h : List Entry) (c i : ℕ) (closed : Bool) (a : Ask) (w : Want) → asked p c i ≡ Some a → a.want ≡ w → IsDue p h (begin_op (sight_of p c h) i closed w)
 begin_due p h c i closed a Unfit e f = tt
 begin_due p h c i closed a (Writes r) e f = send_due p h c i closed a r e f
 begin_due p h c i true a (Reads q watch) e f = tt
 begin_due p h c i false a (Reads q watch) e f = tt
 
-next_command_due : (p : Plan) (h : List Entry) (c : ℕ) (x : Client) (a : Option Ask) → asked p c (x.begun + 1) ≡ a → IsDue p h (next_command_op p c h x a)
+next_command_due : (p : Plan) (h : List Entry) (c : ℕ) (x : Client Sent) (a : Option Ask) → asked p c (x.begun + 1) ≡ a → IsDue p h (begin_asked by_result (sight_of p c h) x a)
 next_command_due p h c x None e = tt
-next_command_due p h c x (Some a) e = cond_both (may_begin p c a x.sent) (begin_op p c (x.begun + 1) h x.closed a.want) op.Idle (IsDue p h) (λ _. begin_due p h c (x.begun + 1) x.closed a a.want e refl) (λ _. tt)
+next_command_due p h c x (Some a) e = cond_both (may_begin by_result (asks_in p c) a x.sent) (begin_op (sight_of p c h) (x.begun + 1) x.closed a.want) op.Idle (IsDue p h) (λ _. begin_due p h c (x.begun + 1) x.closed a a.want e refl) (λ _. tt)
 
 message_due : (p : Plan) (h : List Entry) (c : ℕ) (m : Message) (ms : List Message) → inbox_of p c h ≡ m ∷ ms → IsDue p h (take_op c m)
 message_due p h c (Done k t) ms e = (ms, e)
@@ -186,7 +180,7 @@ message_due p h c (Kept k (Refused cd place at)) ms e = (Refused cd place at, ms
 message_due p h c (Watch watch) ms e = (ms, e)
 message_due p h c (Ping ping) ms e = (ms, e)
 
-take_due : (p : Plan) (h : List Entry) (c : ℕ) (ms : List Message) (o : Op) → inbox_of p c h ≡ ms → IsDue p h o → IsDue p h (take_or c ms o)
+take_due : (p : Plan) (h : List Entry) (c : ℕ) (ms : List Message) (o : Op) → inbox_of p c h ≡ ms → IsDue p h o → IsDue p h (take_or c (first_message ms) o)
 take_due p h c [] o e d = d
 take_due p h c (m ∷ ms) o e d = message_due p h c m ms e
 
@@ -197,7 +191,8 @@ pong_due p h c (n ∷ ns) o d = tt
 client_due : (p : Plan) (h : List Entry) (c : ℕ) → IsDue p h (client_op p c h)
 client_due p h c =
     let x = client_of p c h in
-    pong_due p h c x.owed _ (take_due p h c (inbox_of p c h) _ refl (look_or_due p h c x x.reading _ (watch_due p h c x x.reading _ (next_command_due p h c x (asked p c (x.begun + 1)) refl))))
+    let s = sight_of p c h in
+    pong_due p h c x.owed _ (take_due p h c (inbox_of p c h) _ refl (look_due p h s x.held (target_of by_result s.seen x x.reading) _ (watch_due p h c x x.reading _ (next_command_due p h c x (asked p c (x.begun + 1)) refl))))
 
 failed_due : (p : Plan) (h : List Entry) (o : Op) → IsDue p h o → IsDue p h (failed_op o)
 failed_due p h o d = grind arith

@@ -9,13 +9,14 @@ use Rattle.fk_print.specs.declared.line.Line.{Line}
 use Rattle.fk_print.specs.declared.line.Line.TheVariants as line
 use Rattle.fk_print.specs.declared.op.Op.{Op}
 use Rattle.fk_print.specs.declared.op.Op.TheVariants as op
-use Rattle.fk_spec.specs.Plan.{Plan, asked}
+use Rattle.fk_spec.specs.Plan.{Plan, asked, asks_in}
+use Rattle.fk_spec.specs.Shown.{seen_by}
 use Rattle.fk_spec.specs.Settling.{is_committed, commits, mark_of, mark_in}
 use Rattle.fk_spec.specs.Stored.{committed_of, committed_in, committed_as, applied_as, with_filled}
 use Rattle.fk_spec.specs.Watches.{Firing, firing_of}
-use Rattle.fk_spec.specs.Lanes.{inbox_of}
-use Rattle.fk_spec.specs.Client.{Client, Reading, Sent, acted, client_in, client_of, contains, ready_first, registers}
-use Rattle.fk_spec.specs.Replies.{reply_lines, first_line, read_line, read_lines, looked_lines, notice_of, own_lines}
+use Rattle.fk_spec.specs.Sight.{sight_of}
+use Rattle.fk_spec.specs.Client.{by_result, ready_first, registers, contains, acted_by, client_in, client_of, Sent, Reading, Client}
+use Rattle.fk_spec.specs.Replies.{reply_lines, first_line, read_line, read_lines, looked_lines, notice_of, own_lines, wording}
 use Rattle.fk_spec.specs.Next.{IsHistory, next_lines, lines_of_client, tx_lines, printed_of}
 use Rattle.fk_spec.specs.PublicLines.{lines_onto, lines_of, txs_among, txs_of}
 use Rattle.fk_law.specs.Due.{IsDue}
@@ -49,27 +50,27 @@ no_txs_both (line.Reply session command verb shown ∷ ls) ms i j = no_txs_both 
 no_txs_both (line.Notice session tx kind what path ∷ ls) ms i j = no_txs_both ls ms i j
 no_txs_both (line.Expired session tx ∷ ls) ms i j = no_txs_both ls ms i j
 
-no_reply_txs : (p : Plan) (h : List Entry) (c : ℕ) (ss : List Sent) → NoTxs (reply_lines p h c ss)
+no_reply_txs : (p : Plan) (h : List Entry) (c : ℕ) (ss : List Sent) → NoTxs (reply_lines (wording p c h) ss)
 no_reply_txs p h c [] = tt
 no_reply_txs p h c (s ∷ ss) = no_reply_txs p h c ss
 
-no_first_txs : (p : Plan) (h : List Entry) (c : ℕ) (ss : List Sent) → NoTxs (first_line p h c ss)
+no_first_txs : (p : Plan) (h : List Entry) (c : ℕ) (ss : List Sent) → NoTxs (first_line (wording p c h) ss)
 no_first_txs p h c [] = tt
 no_first_txs p h c (s ∷ ss) = tt
 
-no_read_txs : (p : Plan) (h : List Entry) (c i : ℕ) (r : Option Reading) → NoTxs (read_lines p h c i r)
+no_read_txs : (p : Plan) (h : List Entry) (c i : ℕ) (r : Option Reading) → NoTxs (read_lines c (asks_in p c) (seen_by c h) i r)
 no_read_txs p h c i None = tt
 no_read_txs p h c i (Some r) = tt
 
-no_looked_txs : (p : Plan) (h : List Entry) (c : ℕ) (x : Client) (r : Option Reading) → NoTxs (looked_lines p h c x r)
+no_looked_txs : (p : Plan) (h : List Entry) (c : ℕ) (x : Client Sent) (r : Option Reading) → NoTxs (looked_lines (wording p c h) (seen_by c h) x r)
 no_looked_txs p h c x None = no_first_txs p h c x.sent
-no_looked_txs p h c x (Some r) = cond_both (registers (asked p c (x.begun + 1)) r.node) [] (read_line p h c (x.begun + 1) r ∷ []) NoTxs (λ _. tt) (λ _. tt)
+no_looked_txs p h c x (Some r) = cond_both (registers (asked p c (x.begun + 1)) r.node) [] (read_line c (asks_in p c) (seen_by c h) (x.begun + 1) r ∷ []) NoTxs (λ _. tt) (λ _. tt)
 
 no_notice_txs : (c : ℕ) (f : Option Firing) → NoTxs (notice_of c f)
 no_notice_txs c None = tt
 no_notice_txs c (Some f) = tt
 
-no_own_txs : (p : Plan) (h : List Entry) (c : ℕ) (x : Client) (o : Op) → NoTxs (own_lines p h c x o)
+no_own_txs : (p : Plan) (h : List Entry) (c : ℕ) (x : Client Sent) (o : Op) → NoTxs (own_lines (wording p c h) (sight_of p c h) x o)
 no_own_txs p h c x (op.TakeEvicted session k tx) = cond_both x.closed [] (line.Expired c tx ∷ []) NoTxs (λ _. tt) (λ _. tt)
 no_own_txs p h c x (op.TakeWatch session watch) = cond_both (contains watch x.held) (notice_of c (firing_of p watch h)) [] NoTxs (λ _. no_notice_txs c (firing_of p watch h)) (λ _. tt)
 no_own_txs p h c x (op.LookOk session command mark) = no_looked_txs p h c x x.reading
@@ -79,8 +80,8 @@ no_own_txs p h c x o = tt
 no_client_txs : (p : Plan) (h : List Entry) (o : Op) (c : Option ℕ) → NoTxs (lines_of_client p h o c)
 no_client_txs p h o None = tt
 no_client_txs p h o (Some c) =
-    let ss = ready_first (acted p c h (inbox_of p c h) o (client_of p c h)).sent in
-    no_txs_both (own_lines p h c (client_of p c h) o) (reply_lines p h c ss) (no_own_txs p h c (client_of p c h) o) (no_reply_txs p h c ss)
+    let ss = ready_first by_result (acted_by (sight_of p c h) o (client_of p c h)).sent in
+    no_txs_both (own_lines (wording p c h) (sight_of p c h) (client_of p c h) o) (reply_lines (wording p c h) ss) (no_own_txs p h c (client_of p c h) o) (no_reply_txs p h c ss)
 
 -- The lines of an entry. ------------------------------------------------------------------------------
 

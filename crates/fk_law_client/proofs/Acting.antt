@@ -10,15 +10,16 @@ use Rattle.fk_print.specs.declared.event.Event.{Event}
 use Rattle.fk_print.specs.declared.event.Event.TheVariants as event
 use Rattle.fk_print.specs.declared.op.Op.{Op}
 use Rattle.fk_print.specs.declared.op.Op.TheVariants as op
-use Rattle.fk_spec.specs.Plan.{Plan, Ask, Want, Unfit, Writes, Reads, asked}
+use Rattle.fk_spec.specs.Plan.{Plan, Ask, Want, Unfit, Writes, Reads, asked, asks_in}
 use Rattle.fk_spec.specs.Shown.{seen_by}
 use Rattle.fk_spec.specs.Start.{starts_of, sends_of}
 use Rattle.fk_spec.specs.Settling.{Committed, Refused, Passed, mark_of}
 use Rattle.fk_spec.specs.Stored.{stamp_of}
 use Rattle.fk_spec.specs.Watches.{last_sweep}
-use Rattle.fk_spec.specs.Lanes.{session_head, leader_head, watch_head, Message, Done, Evicted, Kept, Watch, Ping, inbox_of}
+use Rattle.fk_spec.specs.Lanes.{session_head, leader_head, watch_head, Message, Done, Evicted, Kept, Watch, Ping}
 use Rattle.fk_spec.specs.Function.{place_of, function_op, fault_op}
-use Rattle.fk_spec.specs.Client.{Client, Sent, Reading, Result, Open, Settled, Plain, Expired, all_go_on, watch_number, number_looked_for, client_of, client_in, client_op, failed_op, pong_or, take_or, take_op, look_or, look_sent_or, look_op, held_op, number_read, watch_or, register_asked, register_for, next_command_op, begin_op, local_if, may_begin, is_none_sent, is_unfit, is_write}
+use Rattle.fk_spec.specs.Sight.{watch_number, sight_of, Sight}
+use Rattle.fk_spec.specs.Client.{number_looked_for, by_result, is_unfit, is_write, number_read, target_with, target_sent, target_of, pong_or, take_op, take_or, held_op, look_op, look_or, register_for, register_asked, watch_or, all_go_on, is_none_sent, may_begin, local_if, begin_op, begin_asked, failed_op, client_in, client_of, client_op, Sent, Reading, Client, Target}
 use Rattle.fk_spec.specs.Replies.{verb_asked}
 use Rattle.fk_spec.specs.Next.{IsHistory, next_op, follow_op, lead_op, tell_op, crash_op}
 use Rattle.fk_law_watch.proofs.Registering.{NoClients, function_none, follow_none, lead_none, tell_none, crash_none, fault_none}
@@ -33,7 +34,7 @@ HeadUpTo mark [] = Unit {0}
 HeadUpTo mark (s ∷ ss) = IsUpTo mark (number_looked_for s.result)
 
 -- what was looked for is at most the mark: the first reply's number, or the read's
-abbrev pub LooksSo : Client → ℕ → ℕ → Type 0
+abbrev pub LooksSo : Client Sent → ℕ → ℕ → Type 0
 LooksSo x seen mark = (x.reading ≡ None → HeadUpTo mark x.sent) × ((r : Reading) → x.reading ≡ Some r → r.looked ≡ false → max seen r.stamp ≤ mark)
 
 abbrev pub IsLooked : Option Reading → Type 0
@@ -41,11 +42,11 @@ IsLooked None = ⊥
 IsLooked (Some r) = r.looked ≡ true
 
 -- command i is the next one, no read is made, and it is a write or nothing is unanswered
-abbrev pub BeginsSo : Plan → ℕ → Client → ℕ → Type 0
+abbrev pub BeginsSo : Plan → ℕ → Client Sent → ℕ → Type 0
 BeginsSo p c x i = (i ≡ x.begun + 1) × (x.reading ≡ None) × ((is_write (verb_asked (asked p c i)) ≡ true) ⊎ (x.sent ≡ []))
 
 -- and the command isn't unfit
-abbrev pub SendsSo : Plan → ℕ → Client → ℕ → Type 0
+abbrev pub SendsSo : Plan → ℕ → Client Sent → ℕ → Type 0
 SendsSo p c x i = (i ≡ x.begun + 1) × (x.reading ≡ None) × ((is_write (verb_asked (asked p c i)) ≡ true) ⊎ (x.sent ≡ [])) × (is_unfit (asked p c i) ≡ false)
 
 abbrev IsRead : Want → Type 0
@@ -57,7 +58,7 @@ ReadsTree None = ⊥
 ReadsTree (Some a) = IsRead a.want
 
 -- what these operations of client c, standing so, say of it
-abbrev pub ActsAs : Plan → ℕ → Client → ℕ → ℕ → Op → Type 0
+abbrev pub ActsAs : Plan → ℕ → Client Sent → ℕ → ℕ → Op → Type 0
 ActsAs p c x seen mark (op.LookOk d i m) = LooksSo x seen mark
 ActsAs p c x seen mark (op.WatchSet d i id) = (i ≡ x.begun + 1) × IsLooked x.reading
 ActsAs p c x seen mark (op.WatchSwept d i t) = (i ≡ x.begun + 1) × IsLooked x.reading
@@ -70,7 +71,7 @@ ActsAs p c x seen mark (op.ReadFault d i) = BeginsSo p c x i × ReadsTree (asked
 ActsAs p c x seen mark _ = Unit {0}
 
 -- and it is of client c
-abbrev Acts : Plan → Client → ℕ → ℕ → ℕ → Op → Type 0
+abbrev Acts : Plan → Client Sent → ℕ → ℕ → ℕ → Op → Type 0
 Acts p x seen mark c o = ActsAs p c x seen mark o × ((d : ℕ) → client_in o ≡ Some d → d ≡ c)
 
 not_below : (a b : ℕ) → nat_lt a b ≡ false → b ≤ a
@@ -79,48 +80,56 @@ not_below a b e = grind (arith, nat_tests)
 its : (c d : ℕ) → Some c ≡ Some d → d ≡ c
 its c d e = grind arith
 
-held_acts : (p : Plan) (x : Client) (seen mark c i m : ℕ) (o : Option ℕ) → LooksSo x seen mark → Acts p x seen mark c (held_op c i m o)
+held_acts : (p : Plan) (x : Client Sent) (seen mark c i m : ℕ) (o : Option ℕ) → LooksSo x seen mark → Acts p x seen mark c (held_op c i m o)
 held_acts p x seen mark c i m None b = (b, its c)
 held_acts p x seen mark c i m (Some id) b = (tt, its c)
 
-look_acts : (p : Plan) (h : List Entry) (x : Client) (seen mark c i : ℕ) (held : List ℕ) (number : ℕ) → (number ≤ mark_of h → LooksSo x seen mark) → Acts p x seen mark c (look_op p c h i held number)
-look_acts p h x seen mark c i held number b = cond_both (nat_lt (mark_of h) number) (op.LookBehind c i (mark_of h)) (held_op c i (mark_of h) _) (Acts p x seen mark c) (λ _. (tt, its c)) (λ e. held_acts p x seen mark c i (mark_of h) _ (b (not_below (mark_of h) number e)))
+look_acts : (p : Plan) (s : Sight) (x : Client Sent) (held : List ℕ) (t : Target) → (t.number ≤ s.mark → LooksSo x s.seen s.mark) → Acts p x s.seen s.mark s.session (look_op s held t)
+look_acts p s x held t b = cond_both (nat_lt s.mark t.number) (op.LookBehind s.session t.command s.mark) (held_op s.session t.command s.mark _) (Acts p x s.seen s.mark s.session) (λ _. (tt, its s.session)) (λ e. held_acts p x s.seen s.mark s.session t.command s.mark _ (b (not_below s.mark t.number e)))
 
--- the look of the first reply, where no read is made or it was looked at
-result_acts : (p : Plan) (h : List Entry) (x : Client) (seen mark c : ℕ) (s : Sent) (r : Result) (ss : List Sent) (o : Op) → Acts p x seen mark c o → ((number : ℕ) → number_looked_for r ≡ Some number → Acts p x seen mark c (look_op p c h s.command x.held number)) → Acts p x seen mark c (look_sent_or p c h x (record s { result = r } ∷ ss) o)
-result_acts p h x seen mark c s Open ss o d f = d
-result_acts p h x seen mark c s (Settled (Committed t)) ss o d f = f t refl
-result_acts p h x seen mark c s (Settled (Refused cd place at)) ss o d f = f at refl
-result_acts p h x seen mark c s (Settled (Passed loss)) ss o d f = d
-result_acts p h x seen mark c s (Plain cd) ss o d f = d
-result_acts p h x seen mark c s (Expired at) ss o d f = d
+target_acts : (p : Plan) (s : Sight) (x : Client Sent) (held : List ℕ) (t : Option Target) (o : Op) → (t ≡ None → Acts p x s.seen s.mark s.session o) → ((u : Target) → t ≡ Some u → u.number ≤ s.mark → LooksSo x s.seen s.mark) → Acts p x s.seen s.mark s.session (look_or s held t o)
+target_acts p s x held None o d b = d refl
+target_acts p s x held (Some t) o d b = look_acts p s x held t (b t refl)
 
-sent_acts : (p : Plan) (h : List Entry) (x : Client) (seen c : ℕ) (ss : List Sent) (o : Op) → Acts p x seen (mark_of h) c o → x.sent ≡ ss → ((r : Reading) → x.reading ≡ Some r → r.looked ≡ true) → Acts p x seen (mark_of h) c (look_sent_or p c h x ss o)
-sent_acts p h x seen c [] o d e l = d
-sent_acts p h x seen c (s ∷ ss) o d e l =
-    result_acts p h x seen (mark_of h) c s s.result ss o d
-    (λ number q. look_acts p h x seen (mark_of h) c s.command x.held number (λ a. ((λ _. subst (HeadUpTo (mark_of h)) (sym e) (subst (IsUpTo (mark_of h)) (sym q) a)), λ r f g. absurd (false≢true (sym g ∙ l r f)))))
-
-idle_acts : (p : Plan) (x : Client) (seen mark c : ℕ) → Acts p x seen mark c op.Idle
+idle_acts : (p : Plan) (x : Client Sent) (seen mark c : ℕ) → Acts p x seen mark c op.Idle
 idle_acts p x seen mark c = (tt, λ d e. absurd (none_some d e))
 
-look_or_acts : (p : Plan) (h : List Entry) (x : Client) (c : ℕ) (o : Op) (r : Option Reading) → x.reading ≡ r → (x.reading ≡ None → Acts p x (seen_by c h) (mark_of h) c o) → ((r : Reading) → x.reading ≡ Some r → r.looked ≡ true → Acts p x (seen_by c h) (mark_of h) c o) → Acts p x (seen_by c h) (mark_of h) c (look_or p c h x r o)
-look_or_acts p h x c o None e f g = sent_acts p h x (seen_by c h) c x.sent o (f e) refl (λ r q. absurd (none_some r (sym e ∙ q)))
-look_or_acts p h x c o (Some r) e f g =
-    cond_both r.looked (look_sent_or p c h x x.sent o) (look_op p c h (x.begun + 1) x.held (number_read c h r)) (Acts p x (seen_by c h) (mark_of h) c)
-    (λ b. sent_acts p h x (seen_by c h) c x.sent o (g r e b) refl (λ s q. subst (λ z. z.looked ≡ true) (some_same r s (sym e ∙ q)) b))
-    (λ _. look_acts p h x (seen_by c h) (mark_of h) c (x.begun + 1) x.held (number_read c h r) (λ a. ((λ q. absurd (none_some r (sym q ∙ e))), λ s q _. subst (λ z. max (seen_by c h) z.stamp ≤ mark_of h) (some_same r s (sym e ∙ q)) a)))
+-- the number of the first reply, where that is looked for
+head_up : (ss : List Sent) (t : Target) (mark : ℕ) → target_sent by_result ss ≡ Some t → t.number ≤ mark → HeadUpTo mark ss
+head_up [] t mark q b = tt
+head_up (s ∷ ss) t mark q b = by_number (number_looked_for s.result) q
+  where
+    by_number : (o : Option ℕ) → target_with s.command o ≡ Some t → IsUpTo mark o
+    by_number None e = tt
+    by_number (Some n) e = subst (λ z. z.number ≤ mark) (sym (some_same (record { command = s.command; number = n }) t e)) b
 
-register_acts : (p : Plan) (h : List Entry) (x : Client) (seen mark c number : ℕ) (a : Option Ask) → IsLooked x.reading → Acts p x seen mark c (register_asked p c h (x.begun + 1) number a)
+-- what is looked for is the number of a read that isn't looked at yet, else that of the first reply
+target_looks : (s : Sight) (x : Client Sent) (r : Option Reading) (t : Target) → x.reading ≡ r → target_of by_result s.seen x r ≡ Some t → t.number ≤ s.mark → LooksSo x s.seen s.mark
+target_looks s x None t e q b = ((λ _. head_up x.sent t s.mark q b), λ r f. absurd (none_some r (sym e ∙ f)))
+target_looks s x (Some r) t e q b = ((λ f. absurd (none_some r (sym f ∙ e))), λ z f g. let y = some_same r z (sym e ∙ f) in subst (λ v. max s.seen v.stamp ≤ s.mark) y (by_flag r.looked (subst (λ v. v.looked ≡ false) (sym y) g) q))
+  where
+    by_flag : (w : Bool) → w ≡ false → (if w then target_sent by_result x.sent else Some (record { command = x.begun + 1; number = max s.seen r.stamp })) ≡ Some t → max s.seen r.stamp ≤ s.mark
+    by_flag true g u = absurd (false≢true (sym g))
+    by_flag false g u = subst (λ v. v.number ≤ s.mark) (sym (some_same (record { command = x.begun + 1; number = max s.seen r.stamp }) t u)) b
+
+-- a read for which nothing is looked for was looked at
+read_looked : (s : Sight) (x : Client Sent) (r : Reading) → target_of by_result s.seen x (Some r) ≡ None → r.looked ≡ true
+read_looked s x r q = by_flag r.looked refl q
+  where
+    by_flag : (b : Bool) → r.looked ≡ b → (if b then target_sent by_result x.sent else Some (record { command = x.begun + 1; number = max s.seen r.stamp })) ≡ None → r.looked ≡ true
+    by_flag true e v = e
+    by_flag false e v = absurd (none_some (record { command = x.begun + 1; number = max s.seen r.stamp }) (sym v))
+
+register_acts : (p : Plan) (h : List Entry) (x : Client Sent) (seen mark c number : ℕ) (a : Option Ask) → IsLooked x.reading → Acts p x seen mark c (register_asked (sight_of p c h) (x.begun + 1) number a)
 register_acts p h x seen mark c number None w = idle_acts p x seen mark c
 register_acts p h x seen mark c number (Some a) w = wanted a.want
   where
-    wanted : (v : Want) → Acts p x seen mark c (register_for p c h (x.begun + 1) number v)
+    wanted : (v : Want) → Acts p x seen mark c (register_for (sight_of p c h) (x.begun + 1) number v)
     wanted (Reads q b) = cond_both (nat_lt number (last_sweep p (path_asked q) h)) (op.WatchSwept c (x.begun + 1) (last_sweep p (path_asked q) h)) (op.WatchSet c (x.begun + 1) (watch_number p c h (path_asked q) (kind_asked q))) (Acts p x seen mark c) (λ _. ((refl, w), its c)) (λ _. ((refl, w), its c))
     wanted Unfit = idle_acts p x seen mark c
     wanted (Writes r) = idle_acts p x seen mark c
 
-local_acts : (p : Plan) (x : Client) (seen mark c i : ℕ) (closed : Bool) (o : Op) → BeginsSo p c x i → Acts p x seen mark c o → Acts p x seen mark c (local_if closed c i o)
+local_acts : (p : Plan) (x : Client Sent) (seen mark c i : ℕ) (closed : Bool) (o : Op) → BeginsSo p c x i → Acts p x seen mark c o → Acts p x seen mark c (local_if closed c i o)
 local_acts p x seen mark c i true o b a = (b, its c)
 local_acts p x seen mark c i false o b a = a
 
@@ -128,27 +137,27 @@ none_sent : (ss : List Sent) → is_none_sent ss ≡ true → ss ≡ []
 none_sent [] e = refl
 none_sent (s ∷ ss) e = absurd (false≢true e)
 
-begin_acts : (p : Plan) (h : List Entry) (x : Client) (seen mark c i : ℕ) (closed : Bool) (a : Ask) (w : Want) → asked p c i ≡ Some a → a.want ≡ w → BeginsSo p c x i → Acts p x seen mark c (begin_op p c i h closed w)
+begin_acts : (p : Plan) (h : List Entry) (x : Client Sent) (seen mark c i : ℕ) (closed : Bool) (a : Ask) (w : Want) → asked p c i ≡ Some a → a.want ≡ w → BeginsSo p c x i → Acts p x seen mark c (begin_op (sight_of p c h) i closed w)
 begin_acts p h x seen mark c i closed a Unfit q f b = (b, its c)
 begin_acts p h x seen mark c i closed a (Writes r) q f b = local_acts p x seen mark c i closed (op.Send c i (sends_of c h + 1)) b ((b.0, b.1, b.2, subst (λ z. is_unfit z ≡ false) (sym q) (subst (λ w. is_unfit (Some (record a { want = w })) ≡ false) (sym f) refl)), its c)
 begin_acts p h x seen mark c i closed a (Reads v w) q f b = local_acts p x seen mark c i closed (op.Read c i (stamp_of (path_asked v) h)) b ((b, subst ReadsTree (sym q) (subst IsRead (sym f) tt)), its c)
 
-next_acts : (p : Plan) (h : List Entry) (x : Client) (seen mark c : ℕ) (a : Option Ask) → asked p c (x.begun + 1) ≡ a → x.reading ≡ None → Acts p x seen mark c (next_command_op p c h x a)
+next_acts : (p : Plan) (h : List Entry) (x : Client Sent) (seen mark c : ℕ) (a : Option Ask) → asked p c (x.begun + 1) ≡ a → x.reading ≡ None → Acts p x seen mark c (begin_asked by_result (sight_of p c h) x a)
 next_acts p h x seen mark c None q e = idle_acts p x seen mark c
 next_acts p h x seen mark c (Some a) q e =
-    cond_both (may_begin p c a x.sent) (begin_op p c (x.begun + 1) h x.closed a.want) op.Idle (Acts p x seen mark c)
+    cond_both (may_begin by_result (asks_in p c) a x.sent) (begin_op (sight_of p c h) (x.begun + 1) x.closed a.want) op.Idle (Acts p x seen mark c)
     (λ b. begin_acts p h x seen mark c (x.begun + 1) x.closed a a.want q refl (refl, e, writing (is_write a.verb) refl b))
     (λ _. idle_acts p x seen mark c)
   where
-    writing : (v : Bool) → is_write a.verb ≡ v → (if v then all_go_on p c x.sent else is_none_sent x.sent) ≡ true → (is_write (verb_asked (asked p c (x.begun + 1))) ≡ true) ⊎ (x.sent ≡ [])
+    writing : (v : Bool) → is_write a.verb ≡ v → (if v then all_go_on by_result (asks_in p c) x.sent else is_none_sent x.sent) ≡ true → (is_write (verb_asked (asked p c (x.begun + 1))) ≡ true) ⊎ (x.sent ≡ [])
     writing true f g = inl (subst (λ z. is_write (verb_asked z) ≡ true) (sym q) f)
     writing false f g = inr (none_sent x.sent g)
 
-watch_acts : (p : Plan) (h : List Entry) (x : Client) (c : ℕ) (r : Option Reading) → x.reading ≡ r → ((s : Reading) → r ≡ Some s → s.looked ≡ true) → Acts p x (seen_by c h) (mark_of h) c (watch_or p c h x r (next_command_op p c h x (asked p c (x.begun + 1))))
+watch_acts : (p : Plan) (h : List Entry) (x : Client Sent) (c : ℕ) (r : Option Reading) → x.reading ≡ r → ((s : Reading) → r ≡ Some s → s.looked ≡ true) → Acts p x (seen_by c h) (mark_of h) c (watch_or (sight_of p c h) x r (begin_asked by_result (sight_of p c h) x (asked p c (x.begun + 1))))
 watch_acts p h x c None e f = next_acts p h x (seen_by c h) (mark_of h) c (asked p c (x.begun + 1)) refl e
-watch_acts p h x c (Some r) e f = register_acts p h x (seen_by c h) (mark_of h) c (number_read c h r) (asked p c (x.begun + 1)) (subst IsLooked (sym e) (f r refl))
+watch_acts p h x c (Some r) e f = register_acts p h x (seen_by c h) (mark_of h) c (number_read (seen_by c h) r) (asked p c (x.begun + 1)) (subst IsLooked (sym e) (f r refl))
 
-message_acts : (p : Plan) (x : Client) (seen mark c : ℕ) (m : Message) → Acts p x seen mark c (take_op c m)
+message_acts : (p : Plan) (x : Client Sent) (seen mark c : ℕ) (m : Message) → Acts p x seen mark c (take_op c m)
 message_acts p x seen mark c (Done k t) = (tt, its c)
 message_acts p x seen mark c (Evicted k t) = (tt, its c)
 message_acts p x seen mark c (Kept k (Passed loss)) = (tt, its c)
@@ -157,26 +166,32 @@ message_acts p x seen mark c (Kept k (Refused cd place at)) = (tt, its c)
 message_acts p x seen mark c (Watch watch) = (tt, its c)
 message_acts p x seen mark c (Ping ping) = (tt, its c)
 
-take_acts : (p : Plan) (x : Client) (seen mark c : ℕ) (ms : List Message) (o : Op) → Acts p x seen mark c o → Acts p x seen mark c (take_or c ms o)
-take_acts p x seen mark c [] o d = d
-take_acts p x seen mark c (m ∷ ms) o d = message_acts p x seen mark c m
+take_acts : (p : Plan) (x : Client Sent) (seen mark c : ℕ) (m : Option Message) (o : Op) → Acts p x seen mark c o → Acts p x seen mark c (take_or c m o)
+take_acts p x seen mark c None o d = d
+take_acts p x seen mark c (Some m) o d = message_acts p x seen mark c m
 
-pong_acts : (p : Plan) (x : Client) (seen mark c : ℕ) (pings : List ℕ) (o : Op) → Acts p x seen mark c o → Acts p x seen mark c (pong_or c pings o)
+pong_acts : (p : Plan) (x : Client Sent) (seen mark c : ℕ) (pings : List ℕ) (o : Op) → Acts p x seen mark c o → Acts p x seen mark c (pong_or c pings o)
 pong_acts p x seen mark c [] o d = d
 pong_acts p x seen mark c (n ∷ ns) o d = (tt, its c)
+
+looked_acts : (p : Plan) (c : ℕ) (h : List Entry) (x : Client Sent) (r : Option Reading) → x.reading ≡ r → target_of by_result (seen_by c h) x r ≡ None → Acts p x (seen_by c h) (mark_of h) c (watch_or (sight_of p c h) x r (begin_asked by_result (sight_of p c h) x (asked p c (x.begun + 1))))
+looked_acts p c h x None e q = watch_acts p h x c None e (λ s a. absurd (none_some s a))
+looked_acts p c h x (Some r) e q = watch_acts p h x c (Some r) e (λ s a. subst (λ z. z.looked ≡ true) (some_same r s a) (read_looked (sight_of p c h) x r q))
 
 client_acts : (p : Plan) (c : ℕ) (h : List Entry) → Acts p (client_of p c h) (seen_by c h) (mark_of h) c (client_op p c h)
 client_acts p c h =
     let x = client_of p c h in
-    let o = watch_or p c h x x.reading (next_command_op p c h x (asked p c (x.begun + 1))) in
-    let l = look_or p c h x x.reading o in
-    pong_acts p x (seen_by c h) (mark_of h) c x.owed (take_or c (inbox_of p c h) l) (take_acts p x (seen_by c h) (mark_of h) c (inbox_of p c h) l
-    (look_or_acts p h x c o x.reading refl (λ e. watch_acts p h x c x.reading refl (λ s a. absurd (none_some s (sym e ∙ a)))) (λ r e b. watch_acts p h x c x.reading refl (λ s a. subst (λ z. z.looked ≡ true) (some_same r s (sym e ∙ a)) b))))
+    let s = sight_of p c h in
+    let t = target_of by_result s.seen x x.reading in
+    let o = watch_or s x x.reading (begin_asked by_result s x (asked p c (x.begun + 1))) in
+    let l = look_or s x.held t o in
+    pong_acts p x (seen_by c h) (mark_of h) c x.owed (take_or c s.head l) (take_acts p x (seen_by c h) (mark_of h) c s.head l
+    (target_acts p s x x.held t o (looked_acts p c h x x.reading refl) (λ u. target_looks s x x.reading u refl)))
 
 failed_in : (o : Op) (d : ℕ) → client_in (failed_op o) ≡ Some d → client_in o ≡ Some d
 failed_in o d e = grind arith
 
-failed_as : (p : Plan) (c : ℕ) (x : Client) (seen mark : ℕ) (o : Op) → ActsAs p c x seen mark o → ActsAs p c x seen mark (failed_op o)
+failed_as : (p : Plan) (c : ℕ) (x : Client Sent) (seen mark : ℕ) (o : Op) → ActsAs p c x seen mark o → ActsAs p c x seen mark (failed_op o)
 failed_as p c x seen mark (op.Send d i k) a = a
 failed_as p c x seen mark (op.SendFault d i) a = a
 failed_as p c x seen mark (op.Local d i) a = a
@@ -189,7 +204,7 @@ failed_as p c x seen mark o a = tt
 
 -- Entries. --------------------------------------------------------------------------------------------
 
-no_client_acts : (p : Plan) (x : Client) (seen mark c : ℕ) (o : Op) → NoClients o → ActsAs p c x seen mark o
+no_client_acts : (p : Plan) (x : Client Sent) (seen mark c : ℕ) (o : Op) → NoClients o → ActsAs p c x seen mark o
 no_client_acts p x seen mark c (op.WatchSet d i id) a = absurd a
 no_client_acts p x seen mark c (op.WatchSwept d i t) a = absurd a
 no_client_acts p x seen mark c (op.WatchFault d i) a = absurd a

@@ -17,15 +17,15 @@ use Rattle.fk_print.specs.declared.line.Line.TheVariants as line
 use Rattle.fk_print.specs.declared.line.Shown.TheVariants as shown
 use Rattle.fk_print.specs.declared.op.Op.{Op}
 use Rattle.fk_print.specs.declared.op.Op.TheVariants as op
-use Rattle.fk_spec.specs.Plan.{Plan, Ask, Want, Unfit, Writes, Reads, asked}
+use Rattle.fk_spec.specs.Plan.{Plan, Ask, Want, Unfit, Writes, Reads, asked, asks_in}
 use Rattle.fk_spec.specs.Shown.{seen_by}
 use Rattle.fk_spec.specs.Locks.{Loss}
 use Rattle.fk_spec.specs.Settling.{Outcome, Committed, Refused, Passed, mark_of}
 use Rattle.fk_spec.specs.Stored.{committed_as}
 use Rattle.fk_spec.specs.Watches.{Firing, firing_of}
-use Rattle.fk_spec.specs.Lanes.{Message, inbox_of}
-use Rattle.fk_spec.specs.Client.{Client, Sent, Reading, Result, Open, Settled, Plain, Expired, with_result, is_open, is_ready, without_ready, ready_first, settle_kept, kept_outcome, contains, is_unfit, local_result, registers, is_close, close_if, looked_for, looked_at, looked, acted, flushed, client_in, client_by, client_of, number_read}
-use Rattle.fk_spec.specs.Replies.{shown_result, shown_applied, shown_reply, shown_loss, shown_answer, shown_asked, reply_lines, first_line, read_line, read_lines, looked_lines, notice_of, own_lines, client_lines}
+use Rattle.fk_spec.specs.Sight.{sight_of}
+use Rattle.fk_spec.specs.Client.{is_open, is_ready, by_result, with_told, without_ready, ready_first, is_unfit, registers, is_close, number_read, contains, settle_with, local_result, close_if, looked_for, looked_at, looked, flushed, kept_outcome, settled_as, acted_by, client_in, client_by, client_of, Result, Sent, Reading, Client, Open, Settled, Plain, Expired}
+use Rattle.fk_spec.specs.Replies.{shown_reply, shown_applied, shown_loss, shown_result, reply_lines, first_line, shown_answer, shown_asked, read_line, read_lines, looked_lines, notice_of, own_lines, wording, client_lines}
 use Rattle.fk_spec.specs.PublicLines.{Each, lines_of, lines_onto}
 use Rattle.fk_spec.specs.Refusals.{is_bad_arguments}
 use Rattle.fk_spec.specs.Next.{IsHistory, next_lines, lines_of_client, tx_lines}
@@ -73,11 +73,11 @@ right : (a b : Bool) → (a && b) ≡ true → b ≡ true
 right true b e = e
 right false b e = absurd (false≢true e)
 
-settled_so : (p : Plan) (c k : ℕ) (o : Outcome) (ss : List Sent) → AllSo p c ss → AllSo p c (with_result k (Settled o) ss)
+settled_so : (p : Plan) (c k : ℕ) (o : Outcome) (ss : List Sent) → AllSo p c ss → AllSo p c (with_told by_result k (Settled o) ss)
 settled_so p c k o [] i = tt
-settled_so p c k o (s ∷ ss) i = cond_both ((s.k == k) && is_open s.result) (record s { result = Settled o } ∷ ss) (s ∷ with_result k (Settled o) ss) (AllSo p c) (λ e. (open_fits (is_unfit (asked p c s.command)) s.result (right (s.k == k) (is_open s.result) e) i.0, i.1)) (λ _. (i.0, settled_so p c k o ss i.1))
+settled_so p c k o (s ∷ ss) i = cond_both ((s.k == k) && is_open s.result) (record s { result = Settled o } ∷ ss) (s ∷ with_told by_result k (Settled o) ss) (AllSo p c) (λ e. (open_fits (is_unfit (asked p c s.command)) s.result (right (s.k == k) (is_open s.result) e) i.0, i.1)) (λ _. (i.0, settled_so p c k o ss i.1))
 
-kept_so : (p : Plan) (c k : ℕ) (o : Option Outcome) (x : Client) → AllSo p c x.sent → AllSo p c (settle_kept k o x).sent
+kept_so : (p : Plan) (c k : ℕ) (o : Option Outcome) (x : Client Sent) → AllSo p c x.sent → AllSo p c (settle_with by_result k (settled_as o) x).sent
 kept_so p c k None x i = i
 kept_so p c k (Some o) x i = settled_so p c k o x.sent i
 
@@ -89,11 +89,11 @@ local_so : (u : Bool) (seen : ℕ) → FitsSo u (local_result u seen)
 local_so true seen = refl
 local_so false seen = refl
 
-unready_so : (p : Plan) (c : ℕ) (ss : List Sent) → AllSo p c ss → AllSo p c (without_ready ss)
+unready_so : (p : Plan) (c : ℕ) (ss : List Sent) → AllSo p c ss → AllSo p c (without_ready by_result ss)
 unready_so p c [] i = tt
-unready_so p c (s ∷ ss) i = cond_both (is_ready s.result) (without_ready ss) (s ∷ ss) (AllSo p c) (λ _. unready_so p c ss i.1) (λ _. i)
+unready_so p c (s ∷ ss) i = cond_both (is_ready s.result) (without_ready by_result ss) (s ∷ ss) (AllSo p c) (λ _. unready_so p c ss i.1) (λ _. i)
 
-looked_for_so : (p : Plan) (c : ℕ) (ss : List Sent) (x : Client) → x.sent ≡ ss → AllSo p c ss → AllSo p c (looked_for p c ss x).sent
+looked_for_so : (p : Plan) (c : ℕ) (ss : List Sent) (x : Client Sent) → x.sent ≡ ss → AllSo p c ss → AllSo p c (looked_for by_result (asks_in p c) ss x).sent
 looked_for_so p c [] x e i = subst (AllSo p c) (sym e) tt
 looked_for_so p c (s ∷ ss) x e i = closing (is_close (asked p c s.command))
   where
@@ -141,11 +141,11 @@ reads_fit n found (Some a) i = by_want a.want i
     by_want Unfit j = absurd j
     by_want (Writes r) j = absurd j
 
-replies_fit : (p : Plan) (h : List Entry) (c : ℕ) (ss : List Sent) → AllSo p c ss → AllFit p (reply_lines p h c (ready_first ss))
+replies_fit : (p : Plan) (h : List Entry) (c : ℕ) (ss : List Sent) → AllSo p c ss → AllFit p (reply_lines (wording p c h) (ready_first by_result ss))
 replies_fit p h c [] i = tt
-replies_fit p h c (s ∷ ss) i = cond_both (is_ready s.result) (s ∷ ready_first ss) [] (λ z. AllFit p (reply_lines p h c z)) (λ _. (result_fits p h (is_unfit (asked p c s.command)) s.result i.0, replies_fit p h c ss i.1)) (λ _. tt)
+replies_fit p h c (s ∷ ss) i = cond_both (is_ready s.result) (s ∷ ready_first by_result ss) [] (λ z. AllFit p (reply_lines (wording p c h) z)) (λ _. (result_fits p h (is_unfit (asked p c s.command)) s.result i.0, replies_fit p h c ss i.1)) (λ _. tt)
 
-first_fits : (p : Plan) (h : List Entry) (c : ℕ) (ss : List Sent) → AllSo p c ss → AllFit p (first_line p h c ss)
+first_fits : (p : Plan) (h : List Entry) (c : ℕ) (ss : List Sent) → AllSo p c ss → AllFit p (first_line (wording p c h) ss)
 first_fits p h c [] i = tt
 first_fits p h c (s ∷ ss) i = (result_fits p h (is_unfit (asked p c s.command)) s.result i.0, tt)
 
@@ -154,13 +154,13 @@ abbrev MakesRead : Plan → ℕ → ℕ → Option Reading → Type 0
 MakesRead p c i None = Unit {0}
 MakesRead p c i (Some r) = ReadsTree (asked p c (i + 1))
 
-looked_fits : (p : Plan) (h : List Entry) (c : ℕ) (x : Client) (r : Option Reading) → MakesRead p c x.begun r → AllSo p c x.sent → AllFit p (looked_lines p h c x r)
+looked_fits : (p : Plan) (h : List Entry) (c : ℕ) (x : Client Sent) (r : Option Reading) → MakesRead p c x.begun r → AllSo p c x.sent → AllFit p (looked_lines (wording p c h) (seen_by c h) x r)
 looked_fits p h c x None m i = first_fits p h c x.sent i
-looked_fits p h c x (Some r) m i = cond_both (registers (asked p c (x.begun + 1)) r.node) [] (read_line p h c (x.begun + 1) r ∷ []) (AllFit p) (λ _. tt) (λ _. ((reads_fit (number_read c h r) r.node (asked p c (x.begun + 1)) m).0, tt))
+looked_fits p h c x (Some r) m i = cond_both (registers (asked p c (x.begun + 1)) r.node) [] (read_line c (asks_in p c) (seen_by c h) (x.begun + 1) r ∷ []) (AllFit p) (λ _. tt) (λ _. ((reads_fit (number_read (seen_by c h) r) r.node (asked p c (x.begun + 1)) m).0, tt))
 
-set_fits : (p : Plan) (h : List Entry) (c i n : ℕ) (r : Option Reading) → i ≡ n + 1 → MakesRead p c n r → AllFit p (read_lines p h c i r)
+set_fits : (p : Plan) (h : List Entry) (c i n : ℕ) (r : Option Reading) → i ≡ n + 1 → MakesRead p c n r → AllFit p (read_lines c (asks_in p c) (seen_by c h) i r)
 set_fits p h c i n None q m = tt
-set_fits p h c i n (Some r) q m = ((reads_fit (number_read c h r) r.node (asked p c i) (subst (λ z. ReadsTree (asked p c z)) (sym q) m)).0, tt)
+set_fits p h c i n (Some r) q m = ((reads_fit (number_read (seen_by c h) r) r.node (asked p c i) (subst (λ z. ReadsTree (asked p c z)) (sym q) m)).0, tt)
 
 fault_reads : (p : Plan) (c i n : ℕ) (r : Option Reading) → i ≡ n + 1 → IsLooked r → MakesRead p c n r → ReadsTree (asked p c i)
 fault_reads p c i n None q l m = absurd l
@@ -170,7 +170,7 @@ notice_fits : (p : Plan) (c : ℕ) (f : Option Firing) → AllFit p (notice_of c
 notice_fits p c None = tt
 notice_fits p c (Some f) = (tt, tt)
 
-own_fits : (p : Plan) (h : List Entry) (c seen mark : ℕ) (x : Client) (o : Op) → ActsAs p c x seen mark o → MakesRead p c x.begun x.reading → AllSo p c x.sent → AllFit p (own_lines p h c x o)
+own_fits : (p : Plan) (h : List Entry) (c seen mark : ℕ) (x : Client Sent) (o : Op) → ActsAs p c x seen mark o → MakesRead p c x.begun x.reading → AllSo p c x.sent → AllFit p (own_lines (wording p c h) (sight_of p c h) x o)
 own_fits p h c seen mark x (op.TakeEvicted d k t) a m i = cond_both x.closed [] (line.Expired c t ∷ []) (AllFit p) (λ _. tt) (λ _. (tt, tt))
 own_fits p h c seen mark x (op.TakeWatch d id) a m i = cond_both (contains id x.held) (notice_of c (firing_of p id h)) [] (AllFit p) (λ _. notice_fits p c (firing_of p id h)) (λ _. tt)
 own_fits p h c seen mark x (op.LookOk d j n) a m i = looked_fits p h c x x.reading m i
@@ -181,24 +181,24 @@ own_fits p h c seen mark x o a m i = tt
 
 -- Operations. ------------------------------------------------------------------------------------------
 
-abbrev StandsSo : Plan → ℕ → Client → Type 0
+abbrev StandsSo : Plan → ℕ → Client Sent → Type 0
 StandsSo p c x = AllSo p c x.sent × MakesRead p c x.begun x.reading
 
 none_made : (p : Plan) (c i : ℕ) (r : Option Reading) → r ≡ None → MakesRead p c i r
 none_made p c i r e = subst (MakesRead p c i) (sym e) tt
 
-kept_none : (p : Plan) (c i k : ℕ) (o : Option Outcome) (x : Client) → AllSo p c x.sent → StandsSo p c (settle_kept k o x)
+kept_none : (p : Plan) (c i k : ℕ) (o : Option Outcome) (x : Client Sent) → AllSo p c x.sent → StandsSo p c (settle_with by_result k (settled_as o) x)
 kept_none p c i k None x s = (s, tt)
 kept_none p c i k (Some o) x s = (settled_so p c k o x.sent s, tt)
 
-looked_so : (p : Plan) (c : ℕ) (r : Option Reading) (x : Client) → x.reading ≡ r → StandsSo p c x → StandsSo p c (looked p c r x)
+looked_so : (p : Plan) (c : ℕ) (r : Option Reading) (x : Client Sent) → x.reading ≡ r → StandsSo p c x → StandsSo p c (looked by_result (asks_in p c) r x)
 looked_so p c None x e s = for_first x.sent refl
   where
     closing : (b : Bool) (ss : List Sent) → AllSo p c ss → StandsSo p c (close_if b (record x { sent = ss }))
     closing true ss i = (i, s.1)
     closing false ss i = (i, s.1)
 
-    for_first : (ss : List Sent) → x.sent ≡ ss → StandsSo p c (looked_for p c ss x)
+    for_first : (ss : List Sent) → x.sent ≡ ss → StandsSo p c (looked_for by_result (asks_in p c) ss x)
     for_first [] q = s
     for_first (y ∷ ss) q = closing (is_close (asked p c y.command)) ss (subst (AllSo p c) q s.0).1
 looked_so p c (Some r) x e s = at_read (registers (asked p c (x.begun + 1)) r.node) (subst (MakesRead p c x.begun) e s.1)
@@ -207,32 +207,32 @@ looked_so p c (Some r) x e s = at_read (registers (asked p c (x.begun + 1)) r.no
     at_read true m = (s.0, m)
     at_read false m = (s.0, tt)
 
-acted_so : (p : Plan) (c seen mark : ℕ) (h : List Entry) (ms : List Message) (x : Client) (o : Op) → ActsAs p c x seen mark o → StandsSo p c x → StandsSo p c (acted p c h ms o x)
-acted_so p c seen mark h ms x (op.Send d i k) a s = (append_so p c x.sent (record { command = i; k = k; result = Open }) a.3 s.0, none_made p c i x.reading a.1)
-acted_so p c seen mark h ms x (op.SendFault d i) a s = (append_so p c x.sent (record { command = i; k = 0; result = Plain code.ConnectionLoss }) (sym a.3) s.0, none_made p c i x.reading a.1)
-acted_so p c seen mark h ms x (op.Local d i) a s = (append_so p c x.sent (record { command = i; k = 0; result = local_result (is_unfit (asked p c i)) (seen_by c h) }) (local_so (is_unfit (asked p c i)) (seen_by c h)) s.0, none_made p c i x.reading a.1)
-acted_so p c seen mark h ms x (op.Read d i n) a s = (s.0, subst (λ z. ReadsTree (asked p c z)) a.0.0 a.1)
-acted_so p c seen mark h ms x (op.TakeDone d k t) a s = (settled_so p c k (Committed t) x.sent s.0, tt)
-acted_so p c seen mark h ms x (op.TakeRefused d k) a s = kept_none p c 0 k (kept_outcome ms) x s.0
-acted_so p c seen mark h ms x (op.TakeLost d k) a s = kept_none p c 0 k (kept_outcome ms) x s.0
-acted_so p c seen mark h ms x (op.TakeEvicted d k t) a s = (s.0, tt)
-acted_so p c seen mark h ms x (op.TakeWatch d id) a s = (s.0, tt)
-acted_so p c seen mark h ms x (op.TakePing d n) a s = (s.0, tt)
-acted_so p c seen mark h ms x (op.LookOk d i m) a s = looked_so p c x.reading x refl s
-acted_so p c seen mark h ms x (op.WatchSet d i id) a s = (s.0, tt)
-acted_so p c seen mark h ms x (op.WatchSwept d i t) a s = (s.0, tt)
-acted_so p c seen mark h ms x (op.ReadFault d i) a s = (s.0, tt)
-acted_so p c seen mark h ms x (op.WatchFault d i) a s = (s.0, tt)
-acted_so p c seen mark h ms x o a s = s
+acted_so : (p : Plan) (c seen mark : ℕ) (h : List Entry) (x : Client Sent) (o : Op) → ActsAs p c x seen mark o → StandsSo p c x → StandsSo p c (acted_by (sight_of p c h) o x)
+acted_so p c seen mark h x (op.Send d i k) a s = (append_so p c x.sent (record { command = i; k = k; result = Open }) a.3 s.0, none_made p c i x.reading a.1)
+acted_so p c seen mark h x (op.SendFault d i) a s = (append_so p c x.sent (record { command = i; k = 0; result = Plain code.ConnectionLoss }) (sym a.3) s.0, none_made p c i x.reading a.1)
+acted_so p c seen mark h x (op.Local d i) a s = (append_so p c x.sent (record { command = i; k = 0; result = local_result (is_unfit (asked p c i)) (seen_by c h) }) (local_so (is_unfit (asked p c i)) (seen_by c h)) s.0, none_made p c i x.reading a.1)
+acted_so p c seen mark h x (op.Read d i n) a s = (s.0, subst (λ z. ReadsTree (asked p c z)) a.0.0 a.1)
+acted_so p c seen mark h x (op.TakeDone d k t) a s = (settled_so p c k (Committed t) x.sent s.0, tt)
+acted_so p c seen mark h x (op.TakeRefused d k) a s = kept_none p c 0 k (kept_outcome (sight_of p c h).head) x s.0
+acted_so p c seen mark h x (op.TakeLost d k) a s = kept_none p c 0 k (kept_outcome (sight_of p c h).head) x s.0
+acted_so p c seen mark h x (op.TakeEvicted d k t) a s = (s.0, tt)
+acted_so p c seen mark h x (op.TakeWatch d id) a s = (s.0, tt)
+acted_so p c seen mark h x (op.TakePing d n) a s = (s.0, tt)
+acted_so p c seen mark h x (op.LookOk d i m) a s = looked_so p c x.reading x refl s
+acted_so p c seen mark h x (op.WatchSet d i id) a s = (s.0, tt)
+acted_so p c seen mark h x (op.WatchSwept d i t) a s = (s.0, tt)
+acted_so p c seen mark h x (op.ReadFault d i) a s = (s.0, tt)
+acted_so p c seen mark h x (op.WatchFault d i) a s = (s.0, tt)
+acted_so p c seen mark h x o a s = s
 
 -- Histories. -------------------------------------------------------------------------------------------
 
-own_stands : (p : Plan) (c : ℕ) (e : Entry) (h : List Entry) → IsHistory p (e ∷ h) → client_in e.op ≡ Some c → StandsSo p c (client_of p c h) → StandsSo p c (flushed (acted p c h (inbox_of p c h) e.op (client_of p c h)))
-own_stands p c e h l q s = let z = acted_so p c (seen_by c h) (mark_of h) h (inbox_of p c h) (client_of p c h) e.op (entry_acts p c e h l q) s in (unready_so p c (acted p c h (inbox_of p c h) e.op (client_of p c h)).sent z.0, z.1)
+own_stands : (p : Plan) (c : ℕ) (e : Entry) (h : List Entry) → IsHistory p (e ∷ h) → client_in e.op ≡ Some c → StandsSo p c (client_of p c h) → StandsSo p c (flushed by_result (acted_by (sight_of p c h) e.op (client_of p c h)))
+own_stands p c e h l q s = let z = acted_so p c (seen_by c h) (mark_of h) h (client_of p c h) e.op (entry_acts p c e h l q) s in (unready_so p c (acted_by (sight_of p c h) e.op (client_of p c h)).sent z.0, z.1)
 
-client_stands : (p : Plan) (c : ℕ) (e : Entry) (h : List Entry) (o : Option ℕ) → client_in e.op ≡ o → (client_in e.op ≡ Some c → StandsSo p c (flushed (acted p c h (inbox_of p c h) e.op (client_of p c h)))) → StandsSo p c (client_of p c h) → StandsSo p c (client_by p c o h (inbox_of p c h) e.op (client_of p c h))
+client_stands : (p : Plan) (c : ℕ) (e : Entry) (h : List Entry) (o : Option ℕ) → client_in e.op ≡ o → (client_in e.op ≡ Some c → StandsSo p c (flushed by_result (acted_by (sight_of p c h) e.op (client_of p c h)))) → StandsSo p c (client_of p c h) → StandsSo p c (client_by (sight_of p c h) o e.op (client_of p c h))
 client_stands p c e h None q f w = w
-client_stands p c e h (Some s) q f w = cond_both (s == c) (flushed (acted p c h (inbox_of p c h) e.op (client_of p c h))) (client_of p c h) (StandsSo p c) (λ t. f (q ∙ ap Some (same_number s c t))) (λ _. w)
+client_stands p c e h (Some s) q f w = cond_both (s == c) (flushed by_result (acted_by (sight_of p c h) e.op (client_of p c h))) (client_of p c h) (StandsSo p c) (λ t. f (q ∙ ap Some (same_number s c t))) (λ _. w)
 
 stands : (p : Plan) (c : ℕ) (h : List Entry) → IsHistory p h → StandsSo p c (client_of p c h)
 stands p c [] l = (tt, tt)
@@ -251,8 +251,8 @@ client_fits p c e h l q =
     let x = client_of p c h in
     let s = stands p c h l.0 in
     let a = entry_acts p c e h l q in
-    fit_append p (own_lines p h c x e.op) (reply_lines p h c (ready_first (acted p c h (inbox_of p c h) e.op x).sent)) (own_fits p h c (seen_by c h) (mark_of h) x e.op a s.1 s.0)
-    (replies_fit p h c (acted p c h (inbox_of p c h) e.op x).sent (acted_so p c (seen_by c h) (mark_of h) h (inbox_of p c h) x e.op a s).0)
+    fit_append p (own_lines (wording p c h) (sight_of p c h) x e.op) (reply_lines (wording p c h) (ready_first by_result (acted_by (sight_of p c h) e.op x).sent)) (own_fits p h c (seen_by c h) (mark_of h) x e.op a s.1 s.0)
+    (replies_fit p h c (acted_by (sight_of p c h) e.op x).sent (acted_so p c (seen_by c h) (mark_of h) h x e.op a s).0)
 
 entry_fits : (p : Plan) (e : Entry) (h : List Entry) → IsHistory p (e ∷ h) → AllFit p e.lines
 entry_fits p e h l = subst (AllFit p) (sym lines) (by_client (client_in e.op) refl)

@@ -13,14 +13,14 @@ use Rattle.fk_print.specs.declared.line.Shown.TheVariants as shown
 use Rattle.fk_print.specs.declared.line.Verb.{Verb}
 use Rattle.fk_print.specs.declared.op.Op.{Op}
 use Rattle.fk_print.specs.declared.op.Op.TheVariants as op
-use Rattle.fk_spec.specs.Plan.{Plan, asked}
+use Rattle.fk_spec.specs.Plan.{Plan, asked, asks_in}
 use Rattle.fk_spec.specs.Shown.{seen_by}
 use Rattle.fk_spec.specs.Settling.{Outcome, Committed, mark_of}
 use Rattle.fk_spec.specs.Stored.{committed_as}
 use Rattle.fk_spec.specs.Watches.{Firing, firing_of}
-use Rattle.fk_spec.specs.Lanes.{Message, inbox_of}
-use Rattle.fk_spec.specs.Client.{Client, Sent, Reading, Result, Open, Settled, Plain, with_result, is_open, is_ready, without_ready, ready_first, settle_kept, kept_outcome, contains, is_unfit, local_result, registers, is_close, close_if, looked_for, looked_at, looked, acted, flushed, client_in, client_by, client_of}
-use Rattle.fk_spec.specs.Replies.{verb_asked, shown_result, reply_line, reply_lines, first_line, read_line, read_lines, looked_lines, notice_of, failed_line, own_lines, client_lines}
+use Rattle.fk_spec.specs.Sight.{sight_of}
+use Rattle.fk_spec.specs.Client.{is_open, is_ready, by_result, with_told, without_ready, ready_first, is_unfit, registers, is_close, contains, settle_with, local_result, close_if, looked_for, looked_at, looked, flushed, kept_outcome, settled_as, acted_by, client_in, client_by, client_of, Result, Sent, Reading, Client, Open, Settled, Plain}
+use Rattle.fk_spec.specs.Replies.{shown_result, verb_asked, reply_line, reply_lines, first_line, read_line, read_lines, looked_lines, notice_of, failed_line, own_lines, wording, client_lines}
 use Rattle.fk_spec.specs.PublicLines.{Each, lines_of, lines_onto}
 use Rattle.fk_spec.specs.Promises.{is_earlier, all_earlier}
 use Rattle.fk_spec.specs.Next.{IsHistory, next_lines, lines_of_client, tx_lines}
@@ -103,11 +103,11 @@ answer_ordered c i ss begun b v sh q e x = subst (λ z. (all_earlier c i b ≡ t
     earlier : all_earlier c i b ≡ true
     earlier = subst (λ z. all_earlier c z b ≡ true) (sym q) at
 
-ready_ordered : (p : Plan) (h : List Entry) (c : ℕ) (ss : List Sent) (begun : ℕ) (b : List Line) → IsOrdered c ss begun b → AllOrdered (reply_lines p h c (ready_first ss)) b × IsOrdered c (without_ready ss) begun (lines_onto (reply_lines p h c (ready_first ss)) b)
+ready_ordered : (p : Plan) (h : List Entry) (c : ℕ) (ss : List Sent) (begun : ℕ) (b : List Line) → IsOrdered c ss begun b → AllOrdered (reply_lines (wording p c h) (ready_first by_result ss)) b × IsOrdered c (without_ready by_result ss) begun (lines_onto (reply_lines (wording p c h) (ready_first by_result ss)) b)
 ready_ordered p h c [] begun b x = (tt, x)
-ready_ordered p h c (s ∷ ss) begun b x = by_ready (is_ready s.result) (let y = first_ordered c s ss begun b (verb_asked (asked p c s.command)) (shown_result p h s.result) x in let z = ready_ordered p h c ss begun (reply_line p h c s ∷ b) y.1 in ((y.0, z.0), z.1))
+ready_ordered p h c (s ∷ ss) begun b x = by_ready (is_ready s.result) (let y = first_ordered c s ss begun b (verb_asked (asked p c s.command)) (shown_result p h s.result) x in let z = ready_ordered p h c ss begun (reply_line (wording p c h) s ∷ b) y.1 in ((y.0, z.0), z.1))
   where
-    by_ready : (d : Bool) → AllOrdered (reply_lines p h c (s ∷ ready_first ss)) b × IsOrdered c (without_ready ss) begun (lines_onto (reply_lines p h c (s ∷ ready_first ss)) b) → AllOrdered (reply_lines p h c (if d then s ∷ ready_first ss else [])) b × IsOrdered c (if d then without_ready ss else s ∷ ss) begun (lines_onto (reply_lines p h c (if d then s ∷ ready_first ss else [])) b)
+    by_ready : (d : Bool) → AllOrdered (reply_lines (wording p c h) (s ∷ ready_first by_result ss)) b × IsOrdered c (without_ready by_result ss) begun (lines_onto (reply_lines (wording p c h) (s ∷ ready_first by_result ss)) b) → AllOrdered (reply_lines (wording p c h) (if d then s ∷ ready_first by_result ss else [])) b × IsOrdered c (if d then without_ready by_result ss else s ∷ ss) begun (lines_onto (reply_lines (wording p c h) (if d then s ∷ ready_first by_result ss else [])) b)
     by_ready true i = i
     by_ready false i = (tt, x)
 
@@ -115,39 +115,39 @@ append_leads : (n : ℕ) (ss : List Sent) (begun : ℕ) (s : Sent) → s.command
 append_leads n [] begun s q x = (q ∙ ap (λ z. z + 1) (sym x), ap (λ z. z + 1) x ∙ sym q)
 append_leads n (y ∷ ss) begun s q x = (x.0, append_leads (n + 1) ss begun s q x.1)
 
-settled_leads : (n k : ℕ) (r : Result) (ss : List Sent) (begun : ℕ) → LeadTo n ss begun → LeadTo n (with_result k r ss) begun
+settled_leads : (n k : ℕ) (r : Result) (ss : List Sent) (begun : ℕ) → LeadTo n ss begun → LeadTo n (with_told by_result k r ss) begun
 settled_leads n k r [] begun x = x
-settled_leads n k r (s ∷ ss) begun x = cond_both ((s.k == k) && is_open s.result) (record s { result = r } ∷ ss) (s ∷ with_result k r ss) (λ z. LeadTo n z begun) (λ _. x) (λ _. (x.0, settled_leads (n + 1) k r ss begun x.1))
+settled_leads n k r (s ∷ ss) begun x = cond_both ((s.k == k) && is_open s.result) (record s { result = r } ∷ ss) (s ∷ with_told by_result k r ss) (λ z. LeadTo n z begun) (λ _. x) (λ _. (x.0, settled_leads (n + 1) k r ss begun x.1))
 
 append_ordered : (c : ℕ) (ss : List Sent) (begun : ℕ) (b : List Line) (s : Sent) → s.command ≡ begun + 1 → IsOrdered c ss begun b → IsOrdered c (ss ++ s ∷ []) s.command b
 append_ordered c ss begun b s q x = record { answered = x.answered; leads = append_leads x.answered ss begun s q x.leads; earlier = x.earlier }
 
-settled_ordered : (c k : ℕ) (r : Result) (ss : List Sent) (begun : ℕ) (b : List Line) → IsOrdered c ss begun b → IsOrdered c (with_result k r ss) begun b
+settled_ordered : (c k : ℕ) (r : Result) (ss : List Sent) (begun : ℕ) (b : List Line) → IsOrdered c ss begun b → IsOrdered c (with_told by_result k r ss) begun b
 settled_ordered c k r ss begun b x = record { answered = x.answered; leads = settled_leads x.answered k r ss begun x.leads; earlier = x.earlier }
 
 -- One operation. ---------------------------------------------------------------------------------------
 
 -- with these lines, the client comes to stand so
-abbrev StepSo : ℕ → List Line → List Line → Client → Type 0
+abbrev StepSo : ℕ → List Line → List Line → Client Sent → Type 0
 StepSo c ls b y = AllOrdered ls b × IsOrdered c y.sent y.begun (lines_onto ls b)
 
-kept_step : (c k : ℕ) (o : Option Outcome) (x : Client) (b : List Line) → IsOrdered c x.sent x.begun b → StepSo c [] b (settle_kept k o x)
+kept_step : (c k : ℕ) (o : Option Outcome) (x : Client Sent) (b : List Line) → IsOrdered c x.sent x.begun b → StepSo c [] b (settle_with by_result k (settled_as o) x)
 kept_step c k None x b i = (tt, i)
 kept_step c k (Some o) x b i = (tt, settled_ordered c k (Settled o) x.sent x.begun b i)
 
-for_step : (p : Plan) (h : List Entry) (c : ℕ) (ss : List Sent) (x : Client) (b : List Line) → x.sent ≡ ss → IsOrdered c x.sent x.begun b → StepSo c (first_line p h c ss) b (looked_for p c ss x)
+for_step : (p : Plan) (h : List Entry) (c : ℕ) (ss : List Sent) (x : Client Sent) (b : List Line) → x.sent ≡ ss → IsOrdered c x.sent x.begun b → StepSo c (first_line (wording p c h) ss) b (looked_for by_result (asks_in p c) ss x)
 for_step p h c [] x b e i = (tt, i)
 for_step p h c (s ∷ ss) x b e i = closing (is_close (asked p c s.command)) (first_ordered c s ss x.begun b (verb_asked (asked p c s.command)) (shown_result p h s.result) (subst (λ z. IsOrdered c z x.begun b) e i))
   where
-    closing : (d : Bool) → (all_earlier c s.command b ≡ true) × IsOrdered c ss x.begun (reply_line p h c s ∷ b) → StepSo c (reply_line p h c s ∷ []) b (close_if d (record x { sent = ss }))
+    closing : (d : Bool) → (all_earlier c s.command b ≡ true) × IsOrdered c ss x.begun (reply_line (wording p c h) s ∷ b) → StepSo c (reply_line (wording p c h) s ∷ []) b (close_if d (record x { sent = ss }))
     closing true y = ((y.0, tt), y.1)
     closing false y = ((y.0, tt), y.1)
 
-at_step : (c : ℕ) (d : Bool) (r : Reading) (x : Client) (v : Verb) (sh : Shown) (b : List Line) → x.sent ≡ [] → IsOrdered c x.sent x.begun b → StepSo c (if d then [] else line.Reply c (x.begun + 1) v sh ∷ []) b (looked_at d r x)
+at_step : (c : ℕ) (d : Bool) (r : Reading) (x : Client Sent) (v : Verb) (sh : Shown) (b : List Line) → x.sent ≡ [] → IsOrdered c x.sent x.begun b → StepSo c (if d then [] else line.Reply c (x.begun + 1) v sh ∷ []) b (looked_at d r x)
 at_step c true r x v sh b e i = (tt, i)
 at_step c false r x v sh b e i = let y = answer_ordered c (x.begun + 1) x.sent x.begun b v sh refl e i in ((y.0, tt), y.1)
 
-look_step : (p : Plan) (h : List Entry) (c seen mark : ℕ) (r : Option Reading) (x : Client) (b : List Line) → ReadSo x.sent seen mark r → IsOrdered c x.sent x.begun b → StepSo c (looked_lines p h c x r) b (looked p c r x)
+look_step : (p : Plan) (h : List Entry) (c seen mark : ℕ) (r : Option Reading) (x : Client Sent) (b : List Line) → ReadSo x.sent seen mark r → IsOrdered c x.sent x.begun b → StepSo c (looked_lines (wording p c h) (seen_by c h) x r) b (looked by_result (asks_in p c) r x)
 look_step p h c seen mark None x b w i = for_step p h c x.sent x b refl i
 look_step p h c seen mark (Some r) x b w i = at_step c (registers (asked p c (x.begun + 1)) r.node) r x _ _ b w.0 i
 
@@ -155,27 +155,27 @@ notice_step : (c : ℕ) (f : Option Firing) (ss : List Sent) (begun : ℕ) (b : 
 notice_step c None ss begun b i = (tt, i)
 notice_step c (Some f) ss begun b i = ((tt, tt), record { answered = i.answered; leads = i.leads; earlier = i.earlier })
 
-set_step : (p : Plan) (h : List Entry) (c i : ℕ) (r : Option Reading) (ss : List Sent) (begun : ℕ) (b : List Line) → IsLooked r → i ≡ begun + 1 → ss ≡ [] → IsOrdered c ss begun b → AllOrdered (read_lines p h c i r) b × IsOrdered c ss (begun + 1) (lines_onto (read_lines p h c i r) b)
+set_step : (p : Plan) (h : List Entry) (c i : ℕ) (r : Option Reading) (ss : List Sent) (begun : ℕ) (b : List Line) → IsLooked r → i ≡ begun + 1 → ss ≡ [] → IsOrdered c ss begun b → AllOrdered (read_lines c (asks_in p c) (seen_by c h) i r) b × IsOrdered c ss (begun + 1) (lines_onto (read_lines c (asks_in p c) (seen_by c h) i r) b)
 set_step p h c i None ss begun b l q e z = absurd l
 set_step p h c i (Some r) ss begun b l q e z = let y = answer_ordered c i ss begun b _ _ q e z in ((y.0, tt), y.1)
 
-failed_step : (p : Plan) (c i : ℕ) (ss : List Sent) (begun : ℕ) (b : List Line) → i ≡ begun + 1 → ss ≡ [] → IsOrdered c ss begun b → AllOrdered (failed_line p c i ∷ []) b × IsOrdered c ss (begun + 1) (failed_line p c i ∷ b)
+failed_step : (p : Plan) (c i : ℕ) (ss : List Sent) (begun : ℕ) (b : List Line) → i ≡ begun + 1 → ss ≡ [] → IsOrdered c ss begun b → AllOrdered (failed_line c (asks_in p c) i ∷ []) b × IsOrdered c ss (begun + 1) (failed_line c (asks_in p c) i ∷ b)
 failed_step p c i ss begun b q e z = let y = answer_ordered c i ss begun b (verb_asked (asked p c i)) (shown.Plain code.SystemError) q e z in ((y.0, tt), y.1)
 
-own_step : (p : Plan) (c : ℕ) (h : List Entry) (seen mark : ℕ) (ms : List Message) (x : Client) (o : Op) (b : List Line) → ReadsAreReads p → ActsAs p c x seen mark o → ReadSo x.sent seen mark x.reading → IsOrdered c x.sent x.begun b → StepSo c (own_lines p h c x o) b (acted p c h ms o x)
-own_step p c h seen mark ms x (op.Send d i k) b v a w z = (tt, append_ordered c x.sent x.begun b (record { command = i; k = k; result = Open }) a.0 z)
-own_step p c h seen mark ms x (op.SendFault d i) b v a w z = (tt, append_ordered c x.sent x.begun b (record { command = i; k = 0; result = Plain code.ConnectionLoss }) a.0 z)
-own_step p c h seen mark ms x (op.Local d i) b v a w z = (tt, append_ordered c x.sent x.begun b (record { command = i; k = 0; result = local_result (is_unfit (asked p c i)) (seen_by c h) }) a.0 z)
-own_step p c h seen mark ms x (op.TakeDone d k t) b v a w z = (tt, settled_ordered c k (Settled (Committed t)) x.sent x.begun b z)
-own_step p c h seen mark ms x (op.TakeRefused d k) b v a w z = kept_step c k (kept_outcome ms) x b z
-own_step p c h seen mark ms x (op.TakeLost d k) b v a w z = kept_step c k (kept_outcome ms) x b z
-own_step p c h seen mark ms x (op.TakeEvicted d k t) b v a w z = cond_both x.closed [] (line.Expired c t ∷ []) (λ ls. AllOrdered ls b × IsOrdered c x.sent x.begun (lines_onto ls b)) (λ _. (tt, z)) (λ _. ((tt, tt), record { answered = z.answered; leads = z.leads; earlier = z.earlier }))
-own_step p c h seen mark ms x (op.TakeWatch d id) b v a w z = cond_both (contains id x.held) (notice_of c (firing_of p id h)) [] (λ ls. AllOrdered ls b × IsOrdered c x.sent x.begun (lines_onto ls b)) (λ _. notice_step c (firing_of p id h) x.sent x.begun b z) (λ _. (tt, z))
-own_step p c h seen mark ms x (op.LookOk d i m) b v a w z = look_step p h c seen mark x.reading x b w z
-own_step p c h seen mark ms x (op.WatchSet d i id) b v a w z = set_step p h c i x.reading x.sent x.begun b a.1 a.0 (none_read x.sent seen mark x.reading w a.1) z
-own_step p c h seen mark ms x (op.WatchFault d i) b v a w z = failed_step p c i x.sent x.begun b a.0 (none_read x.sent seen mark x.reading w a.1) z
-own_step p c h seen mark ms x (op.ReadFault d i) b v a w z = failed_step p c i x.sent x.begun b a.0.0 (none_unanswered p c x i v a.0 a.1) z
-own_step p c h seen mark ms x o b v a w z = (tt, z)
+own_step : (p : Plan) (c : ℕ) (h : List Entry) (seen mark : ℕ) (x : Client Sent) (o : Op) (b : List Line) → ReadsAreReads p → ActsAs p c x seen mark o → ReadSo x.sent seen mark x.reading → IsOrdered c x.sent x.begun b → StepSo c (own_lines (wording p c h) (sight_of p c h) x o) b (acted_by (sight_of p c h) o x)
+own_step p c h seen mark x (op.Send d i k) b v a w z = (tt, append_ordered c x.sent x.begun b (record { command = i; k = k; result = Open }) a.0 z)
+own_step p c h seen mark x (op.SendFault d i) b v a w z = (tt, append_ordered c x.sent x.begun b (record { command = i; k = 0; result = Plain code.ConnectionLoss }) a.0 z)
+own_step p c h seen mark x (op.Local d i) b v a w z = (tt, append_ordered c x.sent x.begun b (record { command = i; k = 0; result = local_result (is_unfit (asked p c i)) (seen_by c h) }) a.0 z)
+own_step p c h seen mark x (op.TakeDone d k t) b v a w z = (tt, settled_ordered c k (Settled (Committed t)) x.sent x.begun b z)
+own_step p c h seen mark x (op.TakeRefused d k) b v a w z = kept_step c k (kept_outcome (sight_of p c h).head) x b z
+own_step p c h seen mark x (op.TakeLost d k) b v a w z = kept_step c k (kept_outcome (sight_of p c h).head) x b z
+own_step p c h seen mark x (op.TakeEvicted d k t) b v a w z = cond_both x.closed [] (line.Expired c t ∷ []) (λ ls. AllOrdered ls b × IsOrdered c x.sent x.begun (lines_onto ls b)) (λ _. (tt, z)) (λ _. ((tt, tt), record { answered = z.answered; leads = z.leads; earlier = z.earlier }))
+own_step p c h seen mark x (op.TakeWatch d id) b v a w z = cond_both (contains id x.held) (notice_of c (firing_of p id h)) [] (λ ls. AllOrdered ls b × IsOrdered c x.sent x.begun (lines_onto ls b)) (λ _. notice_step c (firing_of p id h) x.sent x.begun b z) (λ _. (tt, z))
+own_step p c h seen mark x (op.LookOk d i m) b v a w z = look_step p h c seen mark x.reading x b w z
+own_step p c h seen mark x (op.WatchSet d i id) b v a w z = set_step p h c i x.reading x.sent x.begun b a.1 a.0 (none_read x.sent seen mark x.reading w a.1) z
+own_step p c h seen mark x (op.WatchFault d i) b v a w z = failed_step p c i x.sent x.begun b a.0 (none_read x.sent seen mark x.reading w a.1) z
+own_step p c h seen mark x (op.ReadFault d i) b v a w z = failed_step p c i x.sent x.begun b a.0.0 (none_unanswered p c x i v a.0 a.1) z
+own_step p c h seen mark x o b v a w z = (tt, z)
 
 -- Lines of other clients. ------------------------------------------------------------------------------
 
@@ -202,19 +202,19 @@ none_earlier : (c i : ℕ) (ls b : List Line) → NoneTo c ls → all_earlier c 
 none_earlier c i [] b n e = e
 none_earlier c i (l ∷ ls) b n e = none_earlier c i ls (l ∷ b) n.1 (joined (is_earlier c i l) (all_earlier c i b) (skips c i l n.0) e)
 
-replies_none : (p : Plan) (h : List Entry) (c s : ℕ) (ss : List Sent) → (s == c) ≡ false → NoneTo c (reply_lines p h s ss)
+replies_none : (p : Plan) (h : List Entry) (c s : ℕ) (ss : List Sent) → (s == c) ≡ false → NoneTo c (reply_lines (wording p s h) ss)
 replies_none p h c s [] e = tt
 replies_none p h c s (x ∷ ss) e = (e, replies_none p h c s ss e)
 
-first_none : (p : Plan) (h : List Entry) (c s : ℕ) (ss : List Sent) → (s == c) ≡ false → NoneTo c (first_line p h s ss)
+first_none : (p : Plan) (h : List Entry) (c s : ℕ) (ss : List Sent) → (s == c) ≡ false → NoneTo c (first_line (wording p s h) ss)
 first_none p h c s [] e = tt
 first_none p h c s (x ∷ ss) e = (e, tt)
 
-looked_none : (p : Plan) (h : List Entry) (c s : ℕ) (x : Client) (r : Option Reading) → (s == c) ≡ false → NoneTo c (looked_lines p h s x r)
+looked_none : (p : Plan) (h : List Entry) (c s : ℕ) (x : Client Sent) (r : Option Reading) → (s == c) ≡ false → NoneTo c (looked_lines (wording p s h) (seen_by s h) x r)
 looked_none p h c s x None e = first_none p h c s x.sent e
-looked_none p h c s x (Some r) e = cond_both (registers (asked p s (x.begun + 1)) r.node) [] (read_line p h s (x.begun + 1) r ∷ []) (NoneTo c) (λ _. tt) (λ _. (e, tt))
+looked_none p h c s x (Some r) e = cond_both (registers (asked p s (x.begun + 1)) r.node) [] (read_line s (asks_in p s) (seen_by s h) (x.begun + 1) r ∷ []) (NoneTo c) (λ _. tt) (λ _. (e, tt))
 
-reads_none : (p : Plan) (h : List Entry) (c s i : ℕ) (r : Option Reading) → (s == c) ≡ false → NoneTo c (read_lines p h s i r)
+reads_none : (p : Plan) (h : List Entry) (c s i : ℕ) (r : Option Reading) → (s == c) ≡ false → NoneTo c (read_lines s (asks_in p s) (seen_by s h) i r)
 reads_none p h c s i None e = tt
 reads_none p h c s i (Some r) e = (e, tt)
 
@@ -222,7 +222,7 @@ notice_none : (c s : ℕ) (f : Option Firing) → NoneTo c (notice_of s f)
 notice_none c s None = tt
 notice_none c s (Some f) = (tt, tt)
 
-own_none : (p : Plan) (h : List Entry) (c s : ℕ) (x : Client) (o : Op) → (s == c) ≡ false → NoneTo c (own_lines p h s x o)
+own_none : (p : Plan) (h : List Entry) (c s : ℕ) (x : Client Sent) (o : Op) → (s == c) ≡ false → NoneTo c (own_lines (wording p s h) (sight_of p s h) x o)
 own_none p h c s x (op.TakeEvicted d k t) e = cond_both x.closed [] (line.Expired s t ∷ []) (NoneTo c) (λ _. tt) (λ _. (tt, tt))
 own_none p h c s x (op.TakeWatch d id) e = cond_both (contains id x.held) (notice_of s (firing_of p id h)) [] (NoneTo c) (λ _. notice_none c s (firing_of p id h)) (λ _. tt)
 own_none p h c s x (op.LookOk d i m) e = looked_none p h c s x x.reading e
@@ -252,15 +252,15 @@ none_ordered p h o b e = subst (λ s. AllOrdered (lines_of_client p h o s) b) (s
 abbrev OrderedAt : Plan → ℕ → List Entry → Type 0
 OrderedAt p c h = IsOrdered c (client_of p c h).sent (client_of p c h).begun (lines_of h)
 
-own_so : (p : Plan) (c : ℕ) (e : Entry) (h : List Entry) → ReadsAreReads p → IsHistory p (e ∷ h) → client_in e.op ≡ Some c → OrderedAt p c h → StepSo c (client_lines p c h e.op) (lines_of h) (flushed (acted p c h (inbox_of p c h) e.op (client_of p c h)))
+own_so : (p : Plan) (c : ℕ) (e : Entry) (h : List Entry) → ReadsAreReads p → IsHistory p (e ∷ h) → client_in e.op ≡ Some c → OrderedAt p c h → StepSo c (client_lines p c h e.op) (lines_of h) (flushed by_result (acted_by (sight_of p c h) e.op (client_of p c h)))
 own_so p c e h v l q z =
     let x = client_of p c h in
-    let y = acted p c h (inbox_of p c h) e.op x in
-    let own = own_lines p h c x e.op in
-    let rest = reply_lines p h c (ready_first y.sent) in
-    let a = own_step p c h (seen_by c h) (mark_of h) (inbox_of p c h) x e.op (lines_of h) v (entry_acts p c e h l q) (reads_so p c h v l.0) z in
+    let y = acted_by (sight_of p c h) e.op x in
+    let own = own_lines (wording p c h) (sight_of p c h) x e.op in
+    let rest = reply_lines (wording p c h) (ready_first by_result y.sent) in
+    let a = own_step p c h (seen_by c h) (mark_of h) x e.op (lines_of h) v (entry_acts p c e h l q) (reads_so p c h v l.0) z in
     let r = ready_ordered p h c y.sent y.begun (lines_onto own (lines_of h)) a.1 in
-    (ordered_append own rest (lines_of h) a.0 r.0, subst (IsOrdered c (without_ready y.sent) y.begun) (sym (onto_append own rest (lines_of h))) r.1)
+    (ordered_append own rest (lines_of h) a.0 r.0, subst (IsOrdered c (without_ready by_result y.sent) y.begun) (sym (onto_append own rest (lines_of h))) r.1)
 
 other_so : (c : ℕ) (ls b : List Line) (ss : List Sent) (begun : ℕ) → NoneTo c ls → IsOrdered c ss begun b → IsOrdered c ss begun (lines_onto ls b)
 other_so c ls b ss begun n x = record { answered = x.answered; leads = x.leads; earlier = none_earlier c (x.answered + 1) ls b n x.earlier }
@@ -269,24 +269,24 @@ lines_are : (p : Plan) (e : Entry) (h : List Entry) → IsHistory p (e ∷ h) �
 lines_are p e h l = ap (λ x. x.lines) l.1.0 ∙ ap (next_lines p h) (sym (ap (λ x. x.op) l.1.0))
 
 abbrev After : Plan → ℕ → Entry → List Entry → Option ℕ → List Line → Type 0
-After p c e h k ls = IsOrdered c (client_by p c k h (inbox_of p c h) e.op (client_of p c h)).sent (client_by p c k h (inbox_of p c h) e.op (client_of p c h)).begun (lines_onto ls (lines_of h))
+After p c e h k ls = IsOrdered c (client_by (sight_of p c h) k e.op (client_of p c h)).sent (client_by (sight_of p c h) k e.op (client_of p c h)).begun (lines_onto ls (lines_of h))
 
 ordered_step : (p : Plan) (c : ℕ) (e : Entry) (h : List Entry) → ReadsAreReads p → IsHistory p (e ∷ h) → OrderedAt p c h → After p c e h (client_in e.op) e.lines
 ordered_step p c e h v l z = subst (After p c e h (client_in e.op)) (sym (lines_are p e h l)) (by_client (client_in e.op) refl)
   where
-    x : Client
+    x : Client Sent
     x = client_of p c h
 
-    own : (s : ℕ) → client_in e.op ≡ Some s → s ≡ c → IsOrdered c (flushed (acted p c h (inbox_of p c h) e.op x)).sent (flushed (acted p c h (inbox_of p c h) e.op x)).begun (lines_onto (client_lines p s h e.op) (lines_of h))
-    own s q g = subst (λ y. IsOrdered c (flushed (acted p c h (inbox_of p c h) e.op x)).sent (flushed (acted p c h (inbox_of p c h) e.op x)).begun (lines_onto (client_lines p y h e.op) (lines_of h))) (sym g) (own_so p c e h v l (q ∙ ap Some g) z).1
+    own : (s : ℕ) → client_in e.op ≡ Some s → s ≡ c → IsOrdered c (flushed by_result (acted_by (sight_of p c h) e.op x)).sent (flushed by_result (acted_by (sight_of p c h) e.op x)).begun (lines_onto (client_lines p s h e.op) (lines_of h))
+    own s q g = subst (λ y. IsOrdered c (flushed by_result (acted_by (sight_of p c h) e.op x)).sent (flushed by_result (acted_by (sight_of p c h) e.op x)).begun (lines_onto (client_lines p y h e.op) (lines_of h))) (sym g) (own_so p c e h v l (q ∙ ap Some g) z).1
 
     other : (s : ℕ) → (s == c) ≡ false → IsOrdered c x.sent x.begun (lines_onto (client_lines p s h e.op) (lines_of h))
-    other s f = let y = client_of p s h in other_so c (client_lines p s h e.op) (lines_of h) x.sent x.begun (none_append c (own_lines p h s y e.op) (reply_lines p h s (ready_first (acted p s h (inbox_of p s h) e.op y).sent)) (own_none p h c s y e.op f) (replies_none p h c s (ready_first (acted p s h (inbox_of p s h) e.op y).sent) f)) z
+    other s f = let y = client_of p s h in other_so c (client_lines p s h e.op) (lines_of h) x.sent x.begun (none_append c (own_lines (wording p s h) (sight_of p s h) y e.op) (reply_lines (wording p s h) (ready_first by_result (acted_by (sight_of p s h) e.op y).sent)) (own_none p h c s y e.op f) (replies_none p h c s (ready_first by_result (acted_by (sight_of p s h) e.op y).sent) f)) z
 
     by_client : (k : Option ℕ) → client_in e.op ≡ k → After p c e h k (next_lines p h e.op)
     by_client None q = other_so c (next_lines p h e.op) (lines_of h) x.sent x.begun (next_none p h c e.op q) z
     by_client (Some s) q = subst (After p c e h (Some s)) (sym (next_is p h s e.op q))
-        (cond_both (s == c) (flushed (acted p c h (inbox_of p c h) e.op x)) x (λ y. IsOrdered c y.sent y.begun (lines_onto (client_lines p s h e.op) (lines_of h))) (λ f. own s q (same_number s c f)) (λ f. other s f))
+        (cond_both (s == c) (flushed by_result (acted_by (sight_of p c h) e.op x)) x (λ y. IsOrdered c y.sent y.begun (lines_onto (client_lines p s h e.op) (lines_of h))) (λ f. own s q (same_number s c f)) (λ f. other s f))
 
 ordered_at : (p : Plan) (c : ℕ) (h : List Entry) → ReadsAreReads p → IsHistory p h → OrderedAt p c h
 ordered_at p c [] v l = record { answered = 0; leads = refl; earlier = refl }

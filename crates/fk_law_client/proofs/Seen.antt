@@ -19,15 +19,16 @@ use Rattle.fk_print.specs.declared.line.Shown.{Shown}
 use Rattle.fk_print.specs.declared.line.Shown.TheVariants as shown
 use Rattle.fk_print.specs.declared.op.Op.{Op}
 use Rattle.fk_print.specs.declared.op.Op.TheVariants as op
-use Rattle.fk_spec.specs.Plan.{Plan, Ask, Want, Unfit, Writes, Reads, asked}
+use Rattle.fk_spec.specs.Plan.{Plan, Ask, Want, Unfit, Writes, Reads, asked, asks_in}
 use Rattle.fk_spec.specs.Shown.{seen_by, seen_in, seen_lines, shown_number, number_or}
 use Rattle.fk_spec.specs.Locks.{Loss}
 use Rattle.fk_spec.specs.Settling.{Outcome, Committed, Refused, Passed, mark_of}
 use Rattle.fk_spec.specs.Stored.{committed_as}
 use Rattle.fk_spec.specs.Watches.{Firing, firing_of}
-use Rattle.fk_spec.specs.Lanes.{Message, Evicted, Watch, inbox_of}
-use Rattle.fk_spec.specs.Client.{Client, Sent, Reading, Result, Open, Settled, Plain, Expired, number_looked_for, with_result, is_open, is_ready, ready_first, settle_kept, kept_outcome, contains, is_unfit, local_result, registers, is_close, close_if, looked_for, looked_at, looked, acted, client_in, client_of}
-use Rattle.fk_spec.specs.Replies.{shown_result, shown_applied, shown_reply, shown_loss, line_for, reply_line, reply_lines, first_line, shown_answer, shown_read, shown_asked, read_line, read_lines, looked_lines, notice_of, own_lines, client_lines}
+use Rattle.fk_spec.specs.Lanes.{Evicted, Watch, inbox_of}
+use Rattle.fk_spec.specs.Sight.{sight_of}
+use Rattle.fk_spec.specs.Client.{is_open, number_looked_for, is_ready, by_result, with_told, ready_first, is_unfit, registers, is_close, contains, settle_with, local_result, close_if, looked_for, looked_at, looked, kept_outcome, settled_as, acted_by, client_in, client_of, Result, Sent, Reading, Client, Open, Settled, Plain, Expired}
+use Rattle.fk_spec.specs.Replies.{shown_reply, shown_applied, shown_loss, shown_result, line_for, reply_line, reply_lines, first_line, shown_answer, shown_read, shown_asked, read_line, read_lines, looked_lines, notice_of, own_lines, wording, client_lines}
 use Rattle.fk_spec.specs.Next.{IsHistory, next_lines}
 use Rattle.fk_law.specs.Due.{IsDue}
 use Rattle.fk_law.proofs.Due.{due}
@@ -53,7 +54,7 @@ number_up : (m n : ℕ) (o : Option ℕ) → IsUpTo m o → n ≤ m → number_o
 number_up m n None i a = a
 number_up m n (Some k) i a = grind (arith, nat_tests)
 
-line_up : (p : Plan) (c i m : ℕ) (s : Shown) → IsUpTo m (shown_number s) → ShowUpTo c m (line_for p c i s ∷ [])
+line_up : (p : Plan) (c i m : ℕ) (s : Shown) → IsUpTo m (shown_number s) → ShowUpTo c m (line_for c (asks_in p c) i s ∷ [])
 line_up p c i m s u n a = cond_both (c == c) (number_or n (shown_number s)) n (λ z. z ≤ m) (λ _. number_up m n (shown_number s) u a) (λ _. a)
 
 pub max_up : (a b m : ℕ) → a ≤ m → b ≤ m → max a b ≤ m
@@ -101,11 +102,11 @@ ready_up m (Settled (Passed loss)) e = tt
 ready_up m (Plain cd) e = tt
 ready_up m (Expired at) e = tt
 
-ready_lines_up : (p : Plan) (h : List Entry) (c m : ℕ) (ss : List Sent) → AllMetUpTo m ss → ShowUpTo c m (reply_lines p h c (ready_first ss))
+ready_lines_up : (p : Plan) (h : List Entry) (c m : ℕ) (ss : List Sent) → AllMetUpTo m ss → ShowUpTo c m (reply_lines (wording p c h) (ready_first by_result ss))
 ready_lines_up p h c m [] i = λ n a. a
 ready_lines_up p h c m (s ∷ ss) i =
-    cond_both (is_ready s.result) (s ∷ ready_first ss) [] (λ z. ShowUpTo c m (reply_lines p h c z))
-    (λ b n a. ready_lines_up p h c m ss i.1 (seen_in c (reply_line p h c s) n) (line_up p c s.command m (shown_result p h s.result) (result_up p h m s.result (ready_up m s.result b) i.0) n a))
+    cond_both (is_ready s.result) (s ∷ ready_first by_result ss) [] (λ z. ShowUpTo c m (reply_lines (wording p c h) z))
+    (λ b n a. ready_lines_up p h c m ss i.1 (seen_in c (reply_line (wording p c h) s) n) (line_up p c s.command m (shown_result p h s.result) (result_up p h m s.result (ready_up m s.result b) i.0) n a))
     (λ _ n a. a)
 
 answer_up : (m n : ℕ) (a : Answer) → n ≤ m → IsUpTo m (shown_number (shown_answer n a))
@@ -125,22 +126,22 @@ asked_up m n found (Some a) e = want_up m n found a.want e
 
 -- What operations print. -------------------------------------------------------------------------------
 
-read_up : (p : Plan) (h : List Entry) (c i m : ℕ) (r : Reading) → max (seen_by c h) r.stamp ≤ m → ShowUpTo c m (read_line p h c i r ∷ [])
+read_up : (p : Plan) (h : List Entry) (c i m : ℕ) (r : Reading) → max (seen_by c h) r.stamp ≤ m → ShowUpTo c m (read_line c (asks_in p c) (seen_by c h) i r ∷ [])
 read_up p h c i m r e = let n = max (seen_by c h) r.stamp in line_up p c i m (shown_asked n r.node (asked p c i)) (asked_up m n r.node (asked p c i) e)
 
-first_up : (p : Plan) (h : List Entry) (c m : ℕ) (ss : List Sent) → HeadUpTo m ss → AllMetUpTo m ss → ShowUpTo c m (first_line p h c ss)
+first_up : (p : Plan) (h : List Entry) (c m : ℕ) (ss : List Sent) → HeadUpTo m ss → AllMetUpTo m ss → ShowUpTo c m (first_line (wording p c h) ss)
 first_up p h c m [] i j = λ n a. a
 first_up p h c m (s ∷ ss) i j = line_up p c s.command m (shown_result p h s.result) (result_up p h m s.result i j.0)
 
-looked_up : (p : Plan) (h : List Entry) (c m : ℕ) (x : Client) (r : Option Reading) → x.reading ≡ r → LooksSo x (seen_by c h) m → ReadSo x.sent (seen_by c h) m r → AllMetUpTo m x.sent → ShowUpTo c m (looked_lines p h c x r)
+looked_up : (p : Plan) (h : List Entry) (c m : ℕ) (x : Client Sent) (r : Option Reading) → x.reading ≡ r → LooksSo x (seen_by c h) m → ReadSo x.sent (seen_by c h) m r → AllMetUpTo m x.sent → ShowUpTo c m (looked_lines (wording p c h) (seen_by c h) x r)
 looked_up p h c m x None e a w j = first_up p h c m x.sent (a.0 e) j
-looked_up p h c m x (Some r) e a w j = cond_both (registers (asked p c (x.begun + 1)) r.node) [] (read_line p h c (x.begun + 1) r ∷ []) (ShowUpTo c m) (λ _ n b. b) (λ _. read_up p h c (x.begun + 1) m r (by_look r.looked refl))
+looked_up p h c m x (Some r) e a w j = cond_both (registers (asked p c (x.begun + 1)) r.node) [] (read_line c (asks_in p c) (seen_by c h) (x.begun + 1) r ∷ []) (ShowUpTo c m) (λ _ n b. b) (λ _. read_up p h c (x.begun + 1) m r (by_look r.looked refl))
   where
     by_look : (b : Bool) → r.looked ≡ b → max (seen_by c h) r.stamp ≤ m
     by_look true f = w.1 f
     by_look false f = a.1 r e f
 
-reads_up : (p : Plan) (h : List Entry) (c i m : ℕ) (ss : List Sent) (r : Option Reading) → IsLooked r → ReadSo ss (seen_by c h) m r → ShowUpTo c m (read_lines p h c i r)
+reads_up : (p : Plan) (h : List Entry) (c i m : ℕ) (ss : List Sent) (r : Option Reading) → IsLooked r → ReadSo ss (seen_by c h) m r → ShowUpTo c m (read_lines c (asks_in p c) (seen_by c h) i r)
 reads_up p h c i m ss None l w = absurd l
 reads_up p h c i m ss (Some r) l w = read_up p h c i m r (w.1 l)
 
@@ -154,7 +155,7 @@ TellsUpTo p h m (op.TakeEvicted d k t) = t ≤ m
 TellsUpTo p h m (op.TakeWatch d id) = (f : Firing) → firing_of p id h ≡ Some f → f.tx ≤ m
 TellsUpTo p h m _ = Unit {0}
 
-own_up : (p : Plan) (h : List Entry) (c m : ℕ) (x : Client) (o : Op) → ActsAs p c x (seen_by c h) m o → ReadSo x.sent (seen_by c h) m x.reading → TellsUpTo p h m o → AllMetUpTo m x.sent → ShowUpTo c m (own_lines p h c x o)
+own_up : (p : Plan) (h : List Entry) (c m : ℕ) (x : Client Sent) (o : Op) → ActsAs p c x (seen_by c h) m o → ReadSo x.sent (seen_by c h) m x.reading → TellsUpTo p h m o → AllMetUpTo m x.sent → ShowUpTo c m (own_lines (wording p c h) (sight_of p c h) x o)
 own_up p h c m x (op.TakeEvicted d k t) a w u j = cond_both x.closed [] (line.Expired c t ∷ []) (ShowUpTo c m) (λ _ n b. b) (λ _ n b. cond_both (c == c) (max t n) n (λ z. z ≤ m) (λ _. max_up t n m u b) (λ _. b))
 own_up p h c m x (op.TakeWatch d id) a w u j = cond_both (contains id x.held) (notice_of c (firing_of p id h)) [] (ShowUpTo c m) (λ _. notice_up c m (firing_of p id h) u) (λ _ n b. b)
 own_up p h c m x (op.LookOk d i k) a w u j = looked_up p h c m x x.reading refl a w j
@@ -165,11 +166,11 @@ own_up p h c m x o a w u j = λ n b. b
 
 -- What stays unanswered. -------------------------------------------------------------------------------
 
-settled_met : (m k : ℕ) (o : Outcome) (ss : List Sent) → AllMetUpTo m ss → AllMetUpTo m (with_result k (Settled o) ss)
+settled_met : (m k : ℕ) (o : Outcome) (ss : List Sent) → AllMetUpTo m ss → AllMetUpTo m (with_told by_result k (Settled o) ss)
 settled_met m k o [] i = tt
-settled_met m k o (s ∷ ss) i = cond_both ((s.k == k) && is_open s.result) (record s { result = Settled o } ∷ ss) (s ∷ with_result k (Settled o) ss) (AllMetUpTo m) (λ _. (tt, i.1)) (λ _. (i.0, settled_met m k o ss i.1))
+settled_met m k o (s ∷ ss) i = cond_both ((s.k == k) && is_open s.result) (record s { result = Settled o } ∷ ss) (s ∷ with_told by_result k (Settled o) ss) (AllMetUpTo m) (λ _. (tt, i.1)) (λ _. (i.0, settled_met m k o ss i.1))
 
-kept_met : (m k : ℕ) (o : Option Outcome) (x : Client) → AllMetUpTo m x.sent → AllMetUpTo m (settle_kept k o x).sent
+kept_met : (m k : ℕ) (o : Option Outcome) (x : Client Sent) → AllMetUpTo m x.sent → AllMetUpTo m (settle_with by_result k (settled_as o) x).sent
 kept_met m k None x i = i
 kept_met m k (Some o) x i = settled_met m k o x.sent i
 
@@ -181,7 +182,7 @@ local_met : (m seen : ℕ) (b : Bool) → seen ≤ m → MetUpTo m (local_result
 local_met m seen true a = tt
 local_met m seen false a = a
 
-looked_for_met : (p : Plan) (c m : ℕ) (ss : List Sent) (x : Client) → x.sent ≡ ss → AllMetUpTo m ss → AllMetUpTo m (looked_for p c ss x).sent
+looked_for_met : (p : Plan) (c m : ℕ) (ss : List Sent) (x : Client Sent) → x.sent ≡ ss → AllMetUpTo m ss → AllMetUpTo m (looked_for by_result (asks_in p c) ss x).sent
 looked_for_met p c m [] x e i = subst (AllMetUpTo m) (sym e) tt
 looked_for_met p c m (s ∷ ss) x e i = closing (is_close (asked p c s.command))
   where
@@ -189,23 +190,23 @@ looked_for_met p c m (s ∷ ss) x e i = closing (is_close (asked p c s.command))
     closing true = i.1
     closing false = i.1
 
-looked_at_met : (m : ℕ) (b : Bool) (r : Reading) (x : Client) → AllMetUpTo m x.sent → AllMetUpTo m (looked_at b r x).sent
+looked_at_met : (m : ℕ) (b : Bool) (r : Reading) (x : Client Sent) → AllMetUpTo m x.sent → AllMetUpTo m (looked_at b r x).sent
 looked_at_met m true r x i = i
 looked_at_met m false r x i = i
 
-looked_met : (p : Plan) (c m : ℕ) (r : Option Reading) (x : Client) → AllMetUpTo m x.sent → AllMetUpTo m (looked p c r x).sent
+looked_met : (p : Plan) (c m : ℕ) (r : Option Reading) (x : Client Sent) → AllMetUpTo m x.sent → AllMetUpTo m (looked by_result (asks_in p c) r x).sent
 looked_met p c m None x i = looked_for_met p c m x.sent x refl i
 looked_met p c m (Some r) x i = looked_at_met m (registers (asked p c (x.begun + 1)) r.node) r x i
 
-acted_met : (p : Plan) (c m : ℕ) (h : List Entry) (ms : List Message) (x : Client) (o : Op) → seen_by c h ≤ m → AllMetUpTo m x.sent → AllMetUpTo m (acted p c h ms o x).sent
-acted_met p c m h ms x (op.Send d i k) a j = append_met m x.sent (record { command = i; k = k; result = Open }) tt j
-acted_met p c m h ms x (op.SendFault d i) a j = append_met m x.sent (record { command = i; k = 0; result = Plain code.ConnectionLoss }) tt j
-acted_met p c m h ms x (op.Local d i) a j = append_met m x.sent (record { command = i; k = 0; result = local_result (is_unfit (asked p c i)) (seen_by c h) }) (local_met m (seen_by c h) (is_unfit (asked p c i)) a) j
-acted_met p c m h ms x (op.TakeDone d k t) a j = settled_met m k (Committed t) x.sent j
-acted_met p c m h ms x (op.TakeRefused d k) a j = kept_met m k (kept_outcome ms) x j
-acted_met p c m h ms x (op.TakeLost d k) a j = kept_met m k (kept_outcome ms) x j
-acted_met p c m h ms x (op.LookOk d i k) a j = looked_met p c m x.reading x j
-acted_met p c m h ms x o a j = j
+acted_met : (p : Plan) (c m : ℕ) (h : List Entry) (x : Client Sent) (o : Op) → seen_by c h ≤ m → AllMetUpTo m x.sent → AllMetUpTo m (acted_by (sight_of p c h) o x).sent
+acted_met p c m h x (op.Send d i k) a j = append_met m x.sent (record { command = i; k = k; result = Open }) tt j
+acted_met p c m h x (op.SendFault d i) a j = append_met m x.sent (record { command = i; k = 0; result = Plain code.ConnectionLoss }) tt j
+acted_met p c m h x (op.Local d i) a j = append_met m x.sent (record { command = i; k = 0; result = local_result (is_unfit (asked p c i)) (seen_by c h) }) (local_met m (seen_by c h) (is_unfit (asked p c i)) a) j
+acted_met p c m h x (op.TakeDone d k t) a j = settled_met m k (Committed t) x.sent j
+acted_met p c m h x (op.TakeRefused d k) a j = kept_met m k (kept_outcome (sight_of p c h).head) x j
+acted_met p c m h x (op.TakeLost d k) a j = kept_met m k (kept_outcome (sight_of p c h).head) x j
+acted_met p c m h x (op.LookOk d i k) a j = looked_met p c m x.reading x j
+acted_met p c m h x o a j = j
 
 met_up : (p : Plan) (c k m : ℕ) (h : List Entry) (r : Result) → seen_by c h ≤ m → IsTrueResult p c k h r → MetUpTo m r
 met_up p c k m h Open a i = tt
@@ -232,9 +233,9 @@ lines_up p c e h v l q a =
     let x = client_of p c h in
     let t = sent_tracked p c h v l.0 in
     let j = tracked_met p c (mark_of h) h t.answered t.last x.sent x.begun _ a t.tracked in
-    append_up c (mark_of h) (own_lines p h c x e.op) (reply_lines p h c (ready_first (acted p c h (inbox_of p c h) e.op x).sent))
+    append_up c (mark_of h) (own_lines (wording p c h) (sight_of p c h) x e.op) (reply_lines (wording p c h) (ready_first by_result (acted_by (sight_of p c h) e.op x).sent))
     (own_up p h c (mark_of h) x e.op (entry_acts p c e h l q) (reads_so p c h v l.0) (tells_up p c h e.op l.0 q (due p e h l)) j)
-    (ready_lines_up p h c (mark_of h) (acted p c h (inbox_of p c h) e.op x).sent (acted_met p c (mark_of h) h (inbox_of p c h) x e.op a j))
+    (ready_lines_up p h c (mark_of h) (acted_by (sight_of p c h) e.op x).sent (acted_met p c (mark_of h) h x e.op a j))
     (seen_by c h) a
 
 seen_step : (p : Plan) (c : ℕ) (e : Entry) (h : List Entry) → ReadsAreReads p → IsHistory p (e ∷ h) → seen_by c h ≤ mark_of h → seen_by c (e ∷ h) ≤ mark_of (e ∷ h)

@@ -8,12 +8,13 @@ use Rattle.fk_print.specs.declared.entry.Entry.{Entry}
 use Rattle.fk_print.specs.declared.line.Line.{Line}
 use Rattle.fk_print.specs.declared.op.Op.{Op}
 use Rattle.fk_print.specs.declared.op.Op.TheVariants as op
-use Rattle.fk_spec.specs.Plan.{Plan, Ask, Want, Unfit, Writes, Reads, asked}
+use Rattle.fk_spec.specs.Plan.{Plan, Ask, Want, Unfit, Writes, Reads, asked, asks_in}
 use Rattle.fk_spec.specs.Shown.{seen_by, seen_in, seen_lines}
 use Rattle.fk_spec.specs.Start.{sends_of, sent_in, count_sent}
 use Rattle.fk_spec.specs.Settling.{Outcome, Committed, Refused, Passed, mark_of}
 use Rattle.fk_spec.specs.Lanes.{Message, Done, Kept, inbox_of}
-use Rattle.fk_spec.specs.Client.{Client, Sent, Reading, Result, Open, Settled, Plain, Expired, with_result, is_open, is_ready, without_ready, settle_kept, kept_outcome, is_unfit, local_result, registers, is_close, close_if, looked_for, looked_at, looked, acted, flushed, client_in, client_by, client_of, is_write}
+use Rattle.fk_spec.specs.Sight.{first_message, sight_of}
+use Rattle.fk_spec.specs.Client.{is_open, is_ready, by_result, with_told, without_ready, is_unfit, registers, is_close, is_write, settle_with, local_result, close_if, looked_for, looked_at, looked, flushed, kept_outcome, settled_as, acted_by, client_in, client_by, client_of, Result, Sent, Reading, Client, Open, Settled, Plain, Expired}
 use Rattle.fk_spec.specs.Replies.{verb_asked}
 use Rattle.fk_spec.specs.Next.{IsHistory}
 use Rattle.fk_law.specs.Due.{IsDue}
@@ -105,25 +106,25 @@ appended p c h n last (y ∷ ss) begun top more s a q i r x = (x.0, x.1, x.2, ap
 append : (p : Plan) (c : ℕ) (h : List Entry) (ss : List Sent) (begun top more : ℕ) (s : Sent) → top ≤ more → s.command ≡ begun + 1 → IsNewSo c top more h s → IsTrueResult p c s.k h s.result → KeepsTrack p c h ss begun top → KeepsTrack p c h (ss ++ s ∷ []) s.command more
 append p c h ss begun top more s a q i r x = record { answered = x.answered; last = x.last; tracked = appended p c h x.answered x.last ss begun top more s a q i r x.tracked }
 
-settled_tracked : (p : Plan) (c k : ℕ) (h : List Entry) (r : Result) (n last : ℕ) (ss : List Sent) (begun top : ℕ) → IsTrueResult p c k h r → AreTracked p c h n last ss begun top → AreTracked p c h n last (with_result k r ss) begun top
+settled_tracked : (p : Plan) (c k : ℕ) (h : List Entry) (r : Result) (n last : ℕ) (ss : List Sent) (begun top : ℕ) → IsTrueResult p c k h r → AreTracked p c h n last ss begun top → AreTracked p c h n last (with_told by_result k r ss) begun top
 settled_tracked p c k h r n last [] begun top t x = x
 settled_tracked p c k h r n last (s ∷ ss) begun top t x =
-    cond_both ((s.k == k) && is_open s.result) (record s { result = r } ∷ ss) (s ∷ with_result k r ss) (λ z. AreTracked p c h n last z begun top)
+    cond_both ((s.k == k) && is_open s.result) (record s { result = r } ∷ ss) (s ∷ with_told by_result k r ss) (λ z. AreTracked p c h n last z begun top)
     (λ b. (x.0, x.1, subst (λ z. IsTrueResult p c z h r) (sym (its_number s.k k (is_open s.result) b)) t, x.3))
     (λ _. (x.0, x.1, x.2, settled_tracked p c k h r (n + 1) (later last s.k) ss begun top t x.3))
   where
     its_number : (a b : ℕ) (o : Bool) → ((a == b) && o) ≡ true → a ≡ b
     its_number a b o e = grind (arith, nat_tests)
 
-settle : (p : Plan) (c k : ℕ) (h : List Entry) (r : Result) (ss : List Sent) (begun top : ℕ) → IsTrueResult p c k h r → KeepsTrack p c h ss begun top → KeepsTrack p c h (with_result k r ss) begun top
+settle : (p : Plan) (c k : ℕ) (h : List Entry) (r : Result) (ss : List Sent) (begun top : ℕ) → IsTrueResult p c k h r → KeepsTrack p c h ss begun top → KeepsTrack p c h (with_told by_result k r ss) begun top
 settle p c k h r ss begun top t x = record { answered = x.answered; last = x.last; tracked = settled_tracked p c k h r x.answered x.last ss begun top t x.tracked }
 
 drop_first : (p : Plan) (c : ℕ) (h : List Entry) (s : Sent) (ss : List Sent) (begun top : ℕ) → KeepsTrack p c h (s ∷ ss) begun top → KeepsTrack p c h ss begun top
 drop_first p c h s ss begun top x = record { answered = x.answered + 1; last = later x.last s.k; tracked = x.tracked.3 }
 
-drop_ready : (p : Plan) (c : ℕ) (h : List Entry) (ss : List Sent) (begun top : ℕ) → KeepsTrack p c h ss begun top → KeepsTrack p c h (without_ready ss) begun top
+drop_ready : (p : Plan) (c : ℕ) (h : List Entry) (ss : List Sent) (begun top : ℕ) → KeepsTrack p c h ss begun top → KeepsTrack p c h (without_ready by_result ss) begun top
 drop_ready p c h [] begun top x = x
-drop_ready p c h (s ∷ ss) begun top x = cond_both (is_ready s.result) (without_ready ss) (s ∷ ss) (λ z. KeepsTrack p c h z begun top) (λ _. drop_ready p c h ss begun top (drop_first p c h s ss begun top x)) (λ _. x)
+drop_ready p c h (s ∷ ss) begun top x = cond_both (is_ready s.result) (without_ready by_result ss) (s ∷ ss) (λ z. KeepsTrack p c h z begun top) (λ _. drop_ready p c h ss begun top (drop_first p c h s ss begun top x)) (λ _. x)
 
 -- a command that is answered at once, while none is unanswered
 answer : (p : Plan) (c : ℕ) (h : List Entry) (ss : List Sent) (begun top : ℕ) → ss ≡ [] → KeepsTrack p c h ss begun top → KeepsTrack p c h ss (begun + 1) top
@@ -131,10 +132,10 @@ answer p c h ss begun top e x = subst (λ z. KeepsTrack p c h z (begun + 1) top)
 
 -- One operation of a client. ---------------------------------------------------------------------------
 
-abbrev TracksAt : Plan → ℕ → List Entry → ℕ → Client → Type 0
+abbrev TracksAt : Plan → ℕ → List Entry → ℕ → Client Sent → Type 0
 TracksAt p c h top x = KeepsTrack p c h x.sent x.begun top
 
-looked_for_tracked : (p : Plan) (c : ℕ) (h : List Entry) (top : ℕ) (ss : List Sent) (x : Client) → x.sent ≡ ss → TracksAt p c h top x → TracksAt p c h top (looked_for p c ss x)
+looked_for_tracked : (p : Plan) (c : ℕ) (h : List Entry) (top : ℕ) (ss : List Sent) (x : Client Sent) → x.sent ≡ ss → TracksAt p c h top x → TracksAt p c h top (looked_for by_result (asks_in p c) ss x)
 looked_for_tracked p c h top [] x e t = t
 looked_for_tracked p c h top (s ∷ ss) x e t = closing (is_close (asked p c s.command))
   where
@@ -145,15 +146,15 @@ looked_for_tracked p c h top (s ∷ ss) x e t = closing (is_close (asked p c s.c
     closing true = rest
     closing false = rest
 
-looked_at_tracked : (p : Plan) (c : ℕ) (h : List Entry) (top : ℕ) (b : Bool) (r : Reading) (x : Client) → x.sent ≡ [] → TracksAt p c h top x → TracksAt p c h top (looked_at b r x)
+looked_at_tracked : (p : Plan) (c : ℕ) (h : List Entry) (top : ℕ) (b : Bool) (r : Reading) (x : Client Sent) → x.sent ≡ [] → TracksAt p c h top x → TracksAt p c h top (looked_at b r x)
 looked_at_tracked p c h top true r x e t = t
 looked_at_tracked p c h top false r x e t = answer p c h x.sent x.begun top e t
 
-looked_tracked : (p : Plan) (c : ℕ) (h : List Entry) (top seen mark : ℕ) (r : Option Reading) (x : Client) → ReadSo x.sent seen mark r → TracksAt p c h top x → TracksAt p c h top (looked p c r x)
+looked_tracked : (p : Plan) (c : ℕ) (h : List Entry) (top seen mark : ℕ) (r : Option Reading) (x : Client Sent) → ReadSo x.sent seen mark r → TracksAt p c h top x → TracksAt p c h top (looked by_result (asks_in p c) r x)
 looked_tracked p c h top seen mark None x w t = looked_for_tracked p c h top x.sent x refl t
 looked_tracked p c h top seen mark (Some r) x w t = looked_at_tracked p c h top (registers (asked p c (x.begun + 1)) r.node) r x w.0 t
 
-kept_tracked : (p : Plan) (c k : ℕ) (h : List Entry) (top : ℕ) (o : Option Outcome) (x : Client) → ((w : Outcome) → o ≡ Some w → IsTrueResult p c k h (Settled w)) → TracksAt p c h top x → TracksAt p c h top (settle_kept k o x)
+kept_tracked : (p : Plan) (c k : ℕ) (h : List Entry) (top : ℕ) (o : Option Outcome) (x : Client Sent) → ((w : Outcome) → o ≡ Some w → IsTrueResult p c k h (Settled w)) → TracksAt p c h top x → TracksAt p c h top (settle_with by_result k (settled_as o) x)
 kept_tracked p c k h top None x i t = t
 kept_tracked p c k h top (Some w) x i t = settle p c k h (Settled w) x.sent x.begun top (i w refl) t
 
@@ -161,7 +162,7 @@ pub none_read : (ss : List Sent) (seen mark : ℕ) (r : Option Reading) → Read
 none_read ss seen mark None w i = absurd i
 none_read ss seen mark (Some r) w i = w.0
 
-pub none_unanswered : (p : Plan) (c : ℕ) (x : Client) (i : ℕ) → ReadsAreReads p → BeginsSo p c x i → ReadsTree (asked p c i) → x.sent ≡ []
+pub none_unanswered : (p : Plan) (c : ℕ) (x : Client Sent) (i : ℕ) → ReadsAreReads p → BeginsSo p c x i → ReadsTree (asked p c i) → x.sent ≡ []
 none_unanswered p c x i k b r = by_ask (asked p c i) refl r b.2
   where
     by_want : (a : Ask) (w : Want) → a.want ≡ w → asked p c i ≡ Some a → ReadsTree (Some (record a { want = w })) → is_write a.verb ≡ true → x.sent ≡ []
@@ -175,12 +176,12 @@ none_unanswered p c x i k b r = by_ask (asked p c i) refl r b.2
     by_ask (Some a) e z (inr d) = d
 
 -- what an operation needs of the inbox, and of the message that it sends
-abbrev TellsSo : Plan → ℕ → List Entry → ℕ → List Message → Op → Type 0
-TellsSo p c h top ms (op.TakeDone d k t) = IsPublishedPush p c k t false h
-TellsSo p c h top ms (op.TakeRefused d k) = (w : Outcome) → kept_outcome ms ≡ Some w → IsTrueResult p c k h (Settled w)
-TellsSo p c h top ms (op.TakeLost d k) = (w : Outcome) → kept_outcome ms ≡ Some w → IsTrueResult p c k h (Settled w)
-TellsSo p c h top ms (op.Send d i k) = (k ≡ top + 1) × IsSentWith c i k h
-TellsSo p c h top ms _ = Unit {0}
+abbrev TellsSo : Plan → ℕ → List Entry → ℕ → Option Message → Op → Type 0
+TellsSo p c h top m (op.TakeDone d k t) = IsPublishedPush p c k t false h
+TellsSo p c h top m (op.TakeRefused d k) = (w : Outcome) → kept_outcome m ≡ Some w → IsTrueResult p c k h (Settled w)
+TellsSo p c h top m (op.TakeLost d k) = (w : Outcome) → kept_outcome m ≡ Some w → IsTrueResult p c k h (Settled w)
+TellsSo p c h top m (op.Send d i k) = (k ≡ top + 1) × IsSentWith c i k h
+TellsSo p c h top m _ = Unit {0}
 
 -- how many messages there are after this operation of client c, which had `top`
 abbrev top_after : ℕ → Op → ℕ
@@ -192,18 +193,18 @@ local_true p c h true seen a = refl
 local_true p c h false seen a = (refl, a)
 
 -- `h` are the entries before, `k` those with the operation's own
-own_step : (p : Plan) (c : ℕ) (h k : List Entry) (seen mark top : ℕ) (ms : List Message) (x : Client) (o : Op) → ReadsAreReads p → ActsAs p c x seen mark o → ReadSo x.sent seen mark x.reading → TellsSo p c k top ms o → seen_by c h ≤ seen_by c k → TracksAt p c k top x → TracksAt p c k (top_after top o) (acted p c h ms o x)
-own_step p c h k seen mark top ms x (op.Send d i n) v a w t g z = append p c k x.sent x.begun top (top + 1) (record { command = i; k = n; result = Open }) (omega arith) a.0 (inr (t.0, (let b = t.0 in omega (arith, b)), t.1)) tt z
-own_step p c h k seen mark top ms x (op.SendFault d i) v a w t g z = append p c k x.sent x.begun top top (record { command = i; k = 0; result = Plain code.ConnectionLoss }) (omega arith) a.0 (inl refl) refl z
-own_step p c h k seen mark top ms x (op.Local d i) v a w t g z = append p c k x.sent x.begun top top (record { command = i; k = 0; result = local_result (is_unfit (asked p c i)) (seen_by c h) }) (omega arith) a.0 (inl refl) (local_true p c k (is_unfit (asked p c i)) (seen_by c h) g) z
-own_step p c h k seen mark top ms x (op.TakeDone d n u) v a w t g z = settle p c n k (Settled (Committed u)) x.sent x.begun top t z
-own_step p c h k seen mark top ms x (op.TakeRefused d n) v a w t g z = kept_tracked p c n k top (kept_outcome ms) x t z
-own_step p c h k seen mark top ms x (op.TakeLost d n) v a w t g z = kept_tracked p c n k top (kept_outcome ms) x t z
-own_step p c h k seen mark top ms x (op.LookOk d i m) v a w t g z = looked_tracked p c k top seen mark x.reading x w z
-own_step p c h k seen mark top ms x (op.WatchSet d i id) v a w t g z = answer p c k x.sent x.begun top (none_read x.sent seen mark x.reading w a.1) z
-own_step p c h k seen mark top ms x (op.WatchFault d i) v a w t g z = answer p c k x.sent x.begun top (none_read x.sent seen mark x.reading w a.1) z
-own_step p c h k seen mark top ms x (op.ReadFault d i) v a w t g z = answer p c k x.sent x.begun top (none_unanswered p c x i v a.0 a.1) z
-own_step p c h k seen mark top ms x o v a w t g z = z
+own_step : (p : Plan) (c : ℕ) (h k : List Entry) (seen mark top : ℕ) (x : Client Sent) (o : Op) → ReadsAreReads p → ActsAs p c x seen mark o → ReadSo x.sent seen mark x.reading → TellsSo p c k top (sight_of p c h).head o → seen_by c h ≤ seen_by c k → TracksAt p c k top x → TracksAt p c k (top_after top o) (acted_by (sight_of p c h) o x)
+own_step p c h k seen mark top x (op.Send d i n) v a w t g z = append p c k x.sent x.begun top (top + 1) (record { command = i; k = n; result = Open }) (omega arith) a.0 (inr (t.0, (let b = t.0 in omega (arith, b)), t.1)) tt z
+own_step p c h k seen mark top x (op.SendFault d i) v a w t g z = append p c k x.sent x.begun top top (record { command = i; k = 0; result = Plain code.ConnectionLoss }) (omega arith) a.0 (inl refl) refl z
+own_step p c h k seen mark top x (op.Local d i) v a w t g z = append p c k x.sent x.begun top top (record { command = i; k = 0; result = local_result (is_unfit (asked p c i)) (seen_by c h) }) (omega arith) a.0 (inl refl) (local_true p c k (is_unfit (asked p c i)) (seen_by c h) g) z
+own_step p c h k seen mark top x (op.TakeDone d n u) v a w t g z = settle p c n k (Settled (Committed u)) x.sent x.begun top t z
+own_step p c h k seen mark top x (op.TakeRefused d n) v a w t g z = kept_tracked p c n k top (kept_outcome (sight_of p c h).head) x t z
+own_step p c h k seen mark top x (op.TakeLost d n) v a w t g z = kept_tracked p c n k top (kept_outcome (sight_of p c h).head) x t z
+own_step p c h k seen mark top x (op.LookOk d i m) v a w t g z = looked_tracked p c k top seen mark x.reading x w z
+own_step p c h k seen mark top x (op.WatchSet d i id) v a w t g z = answer p c k x.sent x.begun top (none_read x.sent seen mark x.reading w a.1) z
+own_step p c h k seen mark top x (op.WatchFault d i) v a w t g z = answer p c k x.sent x.begun top (none_read x.sent seen mark x.reading w a.1) z
+own_step p c h k seen mark top x (op.ReadFault d i) v a w t g z = answer p c k x.sent x.begun top (none_unanswered p c x i v a.0 a.1) z
+own_step p c h k seen mark top x o v a w t g z = z
 
 -- Histories. -------------------------------------------------------------------------------------------
 
@@ -215,15 +216,15 @@ kept_true p c k h (Passed loss) i = i.0
 pub first_true : (p : Plan) (c : ℕ) (h : List Entry) (ms rest : List Message) (m : Message) → ms ≡ m ∷ rest → AreTrueMessages p c h ms → IsTrueMessage p c h m
 first_true p c h ms rest m e i = (subst (AreTrueMessages p c h) e i).0
 
-kept_first : (p : Plan) (c k : ℕ) (e : Entry) (h : List Entry) (ms rest : List Message) (o : Outcome) → IsHistory p (e ∷ h) → ms ≡ Kept k o ∷ rest → AreTrueMessages p c h ms → (w : Outcome) → kept_outcome ms ≡ Some w → IsTrueResult p c k (e ∷ h) (Settled w)
+kept_first : (p : Plan) (c k : ℕ) (e : Entry) (h : List Entry) (ms rest : List Message) (o : Outcome) → IsHistory p (e ∷ h) → ms ≡ Kept k o ∷ rest → AreTrueMessages p c h ms → (w : Outcome) → kept_outcome (first_message ms) ≡ Some w → IsTrueResult p c k (e ∷ h) (Settled w)
 kept_first p c k e h ms rest o l q i w f =
-    let s : o ≡ w = some_same o w (sym (ap kept_outcome q) ∙ f) in
+    let s : o ≡ w = some_same o w (sym (ap (λ z. kept_outcome (first_message z)) q) ∙ f) in
     result_stays p c k e h (Settled w) l (subst (λ z. IsTrueResult p c k h (Settled z)) s (kept_true p c k h o (first_true p c h ms rest (Kept k o) q i)))
 
 sent_now : (p : Plan) (c i k : ℕ) (e : Entry) (h : List Entry) → e.op ≡ op.Send c i k → k ≡ sends_of c h + 1 → IsSentWith c i k (e ∷ h)
 sent_now p c i k e h q f = record { seen = seen_by c h; origin = rw (q, f) (grind (arith, nat_tests)) }
 
-tells_so : (p : Plan) (c : ℕ) (e : Entry) (h : List Entry) (o : Op) → IsHistory p (e ∷ h) → e.op ≡ o → client_in o ≡ Some c → IsDue p h o → TellsSo p c (e ∷ h) (sends_of c h) (inbox_of p c h) o
+tells_so : (p : Plan) (c : ℕ) (e : Entry) (h : List Entry) (o : Op) → IsHistory p (e ∷ h) → e.op ≡ o → client_in o ≡ Some c → IsDue p h o → TellsSo p c (e ∷ h) (sends_of c h) (sight_of p c h).head o
 tells_so p c e h (op.TakeDone d k t) l q f i = let s : d ≡ c = some_same d c f in published_push_stays p c k t false e h l (first_true p c h (inbox_of p c h) i.0 (Done k t) (subst (λ z. inbox_of p z h ≡ Done k t ∷ i.0) s i.1) (inbox_messages p c h l.0))
 tells_so p c e h (op.TakeRefused d k) l q f i = let s : d ≡ c = some_same d c f in kept_first p c k e h (inbox_of p c h) i.1 i.0 l (subst (λ z. inbox_of p z h ≡ Kept k i.0 ∷ i.1) s i.2) (inbox_messages p c h l.0)
 tells_so p c e h (op.TakeLost d k) l q f i = let s : d ≡ c = some_same d c f in kept_first p c k e h (inbox_of p c h) i.1 (Passed i.0) l (subst (λ z. inbox_of p z h ≡ Kept k (Passed i.0) ∷ i.1) s i.2) (inbox_messages p c h l.0)
@@ -233,25 +234,25 @@ tells_so p c e h o l q f i = tt
 top_is : (c : ℕ) (h : List Entry) (o : Op) → client_in o ≡ Some c → top_after (sends_of c h) o ≡ count_sent (sent_in c h o) (sends_of c h)
 top_is c h o e = grind (arith, nat_tests)
 
-client_step : (p : Plan) (c : ℕ) (e : Entry) (h : List Entry) (o : Option ℕ) → client_in e.op ≡ o → (client_in e.op ≡ Some c → TracksAt p c (e ∷ h) (sends_of c (e ∷ h)) (flushed (acted p c h (inbox_of p c h) e.op (client_of p c h)))) → TracksAt p c (e ∷ h) (sends_of c (e ∷ h)) (client_of p c h) → TracksAt p c (e ∷ h) (sends_of c (e ∷ h)) (client_by p c o h (inbox_of p c h) e.op (client_of p c h))
+client_step : (p : Plan) (c : ℕ) (e : Entry) (h : List Entry) (o : Option ℕ) → client_in e.op ≡ o → (client_in e.op ≡ Some c → TracksAt p c (e ∷ h) (sends_of c (e ∷ h)) (flushed by_result (acted_by (sight_of p c h) e.op (client_of p c h)))) → TracksAt p c (e ∷ h) (sends_of c (e ∷ h)) (client_of p c h) → TracksAt p c (e ∷ h) (sends_of c (e ∷ h)) (client_by (sight_of p c h) o e.op (client_of p c h))
 client_step p c e h None q f w = w
-client_step p c e h (Some s) q f w = cond_both (s == c) (flushed (acted p c h (inbox_of p c h) e.op (client_of p c h))) (client_of p c h) (TracksAt p c (e ∷ h) (sends_of c (e ∷ h))) (λ t. f (q ∙ ap Some (same_number s c t))) (λ _. w)
+client_step p c e h (Some s) q f w = cond_both (s == c) (flushed by_result (acted_by (sight_of p c h) e.op (client_of p c h))) (client_of p c h) (TracksAt p c (e ∷ h) (sends_of c (e ∷ h))) (λ t. f (q ∙ ap Some (same_number s c t))) (λ _. w)
 
 tracked_step : (p : Plan) (c : ℕ) (e : Entry) (h : List Entry) → ReadsAreReads p → IsHistory p (e ∷ h) → TracksAt p c h (sends_of c h) (client_of p c h) → TracksAt p c (e ∷ h) (sends_of c (e ∷ h)) (client_of p c (e ∷ h))
 tracked_step p c e h v l before = client_step p c e h (client_in e.op) refl own (raise p c (e ∷ h) x.sent x.begun (sends_of c h) (sends_of c (e ∷ h)) ((numbers_never_fall h (e ∷ [])).sends c) old)
   where
-    x : Client
+    x : Client Sent
     x = client_of p c h
 
     old : TracksAt p c (e ∷ h) (sends_of c h) x
     old = record { answered = before.answered; last = before.last; tracked = tracked_stays p c e h before.answered before.last x.sent x.begun l before.tracked }
 
-    own : client_in e.op ≡ Some c → TracksAt p c (e ∷ h) (sends_of c (e ∷ h)) (flushed (acted p c h (inbox_of p c h) e.op x))
+    own : client_in e.op ≡ Some c → TracksAt p c (e ∷ h) (sends_of c (e ∷ h)) (flushed by_result (acted_by (sight_of p c h) e.op x))
     own q =
-        let y = acted p c h (inbox_of p c h) e.op x in
+        let y = acted_by (sight_of p c h) e.op x in
         drop_ready p c (e ∷ h) y.sent y.begun (sends_of c (e ∷ h))
         (subst (λ z. TracksAt p c (e ∷ h) z y) (top_is c h e.op q)
-        (own_step p c h (e ∷ h) (seen_by c h) (mark_of h) (sends_of c h) (inbox_of p c h) x e.op v (entry_acts p c e h l q) (reads_so p c h v l.0) (tells_so p c e h e.op l refl q (due p e h l)) (seen_grows c e.lines (seen_by c h)) old))
+        (own_step p c h (e ∷ h) (seen_by c h) (mark_of h) (sends_of c h) x e.op v (entry_acts p c e h l q) (reads_so p c h v l.0) (tells_so p c e h e.op l refl q (due p e h l)) (seen_grows c e.lines (seen_by c h)) old))
 
 pub sent_tracked : SentCommandsAreTracked
 sent_tracked p c [] v l = record { answered = 0; last = 0; tracked = (refl, omega arith) }

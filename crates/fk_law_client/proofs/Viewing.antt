@@ -18,15 +18,15 @@ use Rattle.fk_print.specs.declared.line.Shown.TheVariants as shown
 use Rattle.fk_print.specs.declared.line.Verb.{Verb}
 use Rattle.fk_print.specs.declared.op.Op.{Op}
 use Rattle.fk_print.specs.declared.op.Op.TheVariants as op
-use Rattle.fk_spec.specs.Plan.{Plan, Ask, Want, Unfit, Writes, Reads, asked}
+use Rattle.fk_spec.specs.Plan.{Plan, Ask, Want, Unfit, Writes, Reads, asked, asks_in}
 use Rattle.fk_spec.specs.Shown.{seen_by, seen_lines, shown_number}
 use Rattle.fk_spec.specs.Start.{written}
 use Rattle.fk_spec.specs.Settling.{Outcome, Committed, mark_of}
 use Rattle.fk_spec.specs.Stored.{committed_as}
 use Rattle.fk_spec.specs.Watches.{Firing, firing_of}
-use Rattle.fk_spec.specs.Lanes.{Message, inbox_of}
-use Rattle.fk_spec.specs.Client.{Client, Sent, Reading, Result, Open, Settled, Plain, Expired, with_result, is_open, is_ready, without_ready, ready_first, settle_kept, kept_outcome, contains, is_unfit, local_result, registers, is_close, close_if, looked_for, looked_at, looked, acted, flushed, client_in, client_by, client_of, is_write}
-use Rattle.fk_spec.specs.Replies.{verb_asked, line_for, reply_line, reply_lines, first_line, shown_answer, shown_read, shown_asked, read_line, read_lines, looked_lines, notice_of, own_lines}
+use Rattle.fk_spec.specs.Sight.{sight_of}
+use Rattle.fk_spec.specs.Client.{is_open, is_ready, by_result, with_told, without_ready, ready_first, is_unfit, registers, is_close, is_write, contains, settle_with, local_result, close_if, looked_for, looked_at, looked, flushed, kept_outcome, settled_as, acted_by, client_in, client_by, client_of, Result, Sent, Reading, Client, Open, Settled, Plain, Expired}
+use Rattle.fk_spec.specs.Replies.{verb_asked, line_for, reply_line, reply_lines, first_line, shown_answer, shown_read, shown_asked, read_line, read_lines, looked_lines, notice_of, own_lines, wording}
 use Rattle.fk_spec.specs.PublicLines.{Each, lines_of, lines_onto, seen_before}
 use Rattle.fk_spec.specs.Promises.{reads_at, IsAtLeast, ViewKept}
 use Rattle.fk_spec.specs.Next.{IsHistory, next_lines, lines_of_client, tx_lines}
@@ -74,23 +74,23 @@ append_written : (p : Plan) (c : ℕ) (ss : List Sent) (s : Sent) → AreWritten
 append_written p c [] s i j = (j, tt)
 append_written p c (x ∷ ss) s i j = (i.0, append_written p c ss s i.1 j)
 
-settled_written : (p : Plan) (c k : ℕ) (r : Result) (ss : List Sent) → AreWritten p c ss → AreWritten p c (with_result k r ss)
+settled_written : (p : Plan) (c k : ℕ) (r : Result) (ss : List Sent) → AreWritten p c ss → AreWritten p c (with_told by_result k r ss)
 settled_written p c k r [] i = tt
-settled_written p c k r (s ∷ ss) i = cond_both ((s.k == k) && is_open s.result) (record s { result = r } ∷ ss) (s ∷ with_result k r ss) (AreWritten p c) (λ _. i) (λ _. (i.0, settled_written p c k r ss i.1))
+settled_written p c k r (s ∷ ss) i = cond_both ((s.k == k) && is_open s.result) (record s { result = r } ∷ ss) (s ∷ with_told by_result k r ss) (AreWritten p c) (λ _. i) (λ _. (i.0, settled_written p c k r ss i.1))
 
-unready_written : (p : Plan) (c : ℕ) (ss : List Sent) → AreWritten p c ss → AreWritten p c (without_ready ss)
+unready_written : (p : Plan) (c : ℕ) (ss : List Sent) → AreWritten p c ss → AreWritten p c (without_ready by_result ss)
 unready_written p c [] i = tt
-unready_written p c (s ∷ ss) i = cond_both (is_ready s.result) (without_ready ss) (s ∷ ss) (AreWritten p c) (λ _. unready_written p c ss i.1) (λ _. i)
+unready_written p c (s ∷ ss) i = cond_both (is_ready s.result) (without_ready by_result ss) (s ∷ ss) (AreWritten p c) (λ _. unready_written p c ss i.1) (λ _. i)
 
-ready_written : (p : Plan) (c : ℕ) (ss : List Sent) → AreWritten p c ss → AreWritten p c (ready_first ss)
+ready_written : (p : Plan) (c : ℕ) (ss : List Sent) → AreWritten p c ss → AreWritten p c (ready_first by_result ss)
 ready_written p c [] i = tt
-ready_written p c (s ∷ ss) i = cond_both (is_ready s.result) (s ∷ ready_first ss) [] (AreWritten p c) (λ _. (i.0, ready_written p c ss i.1)) (λ _. tt)
+ready_written p c (s ∷ ss) i = cond_both (is_ready s.result) (s ∷ ready_first by_result ss) [] (AreWritten p c) (λ _. (i.0, ready_written p c ss i.1)) (λ _. tt)
 
-kept_written : (p : Plan) (c k : ℕ) (o : Option Outcome) (x : Client) → AreWritten p c x.sent → AreWritten p c (settle_kept k o x).sent
+kept_written : (p : Plan) (c k : ℕ) (o : Option Outcome) (x : Client Sent) → AreWritten p c x.sent → AreWritten p c (settle_with by_result k (settled_as o) x).sent
 kept_written p c k None x i = i
 kept_written p c k (Some o) x i = settled_written p c k (Settled o) x.sent i
 
-looked_for_written : (p : Plan) (c : ℕ) (ss : List Sent) (x : Client) → x.sent ≡ ss → AreWritten p c ss → AreWritten p c (looked_for p c ss x).sent
+looked_for_written : (p : Plan) (c : ℕ) (ss : List Sent) (x : Client Sent) → x.sent ≡ ss → AreWritten p c ss → AreWritten p c (looked_for by_result (asks_in p c) ss x).sent
 looked_for_written p c [] x e i = subst (AreWritten p c) (sym e) tt
 looked_for_written p c (s ∷ ss) x e i = closing (is_close (asked p c s.command))
   where
@@ -98,22 +98,22 @@ looked_for_written p c (s ∷ ss) x e i = closing (is_close (asked p c s.command
     closing true = i.1
     closing false = i.1
 
-looked_at_written : (p : Plan) (c : ℕ) (b : Bool) (r : Reading) (x : Client) → AreWritten p c x.sent → AreWritten p c (looked_at b r x).sent
+looked_at_written : (p : Plan) (c : ℕ) (b : Bool) (r : Reading) (x : Client Sent) → AreWritten p c x.sent → AreWritten p c (looked_at b r x).sent
 looked_at_written p c true r x i = i
 looked_at_written p c false r x i = i
 
-looked_written : (p : Plan) (c : ℕ) (r : Option Reading) (x : Client) → AreWritten p c x.sent → AreWritten p c (looked p c r x).sent
+looked_written : (p : Plan) (c : ℕ) (r : Option Reading) (x : Client Sent) → AreWritten p c x.sent → AreWritten p c (looked by_result (asks_in p c) r x).sent
 looked_written p c None x i = looked_for_written p c x.sent x refl i
 looked_written p c (Some r) x i = looked_at_written p c (registers (asked p c (x.begun + 1)) r.node) r x i
 
 -- Lines of a client. -----------------------------------------------------------------------------------
 
-written_kept : (p : Plan) (h : List Entry) (c : ℕ) (s : Sent) (before : List Line) → IsWritten p c s.command → ViewKept (reply_line p h c s) before
+written_kept : (p : Plan) (h : List Entry) (c : ℕ) (s : Sent) (before : List Line) → IsWritten p c s.command → ViewKept (reply_line (wording p c h) s) before
 written_kept p h c s before i = rw i tt
 
-replies_kept : (p : Plan) (h : List Entry) (c : ℕ) (ss : List Sent) (before : List Line) → AreWritten p c ss → AllKept (reply_lines p h c ss) before
+replies_kept : (p : Plan) (h : List Entry) (c : ℕ) (ss : List Sent) (before : List Line) → AreWritten p c ss → AllKept (reply_lines (wording p c h) ss) before
 replies_kept p h c [] before i = tt
-replies_kept p h c (s ∷ ss) before i = (written_kept p h c s before i.0, replies_kept p h c ss (reply_line p h c s ∷ before) i.1)
+replies_kept p h c (s ∷ ss) before i = (written_kept p h c s before i.0, replies_kept p h c ss (reply_line (wording p c h) s ∷ before) i.1)
 
 answer_at_least : (seen n : ℕ) (a : Answer) → nat_le seen n ≡ true → IsAtLeast seen (shown_number (shown_answer n a))
 answer_at_least seen n (answer.Got bytes stat) e = e
@@ -137,21 +137,21 @@ at_least_max : (a b : ℕ) → nat_le a (max a b) ≡ true
 at_least_max a b = grind (arith, nat_tests)
 
 -- a reply that shows at least what its client has seen
-shown_kept : (p : Plan) (h : List Entry) (c i : ℕ) (s : Shown) → IsAtLeast (seen_by c h) (shown_number s) → ViewKept (line_for p c i s) (lines_of h)
+shown_kept : (p : Plan) (h : List Entry) (c i : ℕ) (s : Shown) → IsAtLeast (seen_by c h) (shown_number s) → ViewKept (line_for c (asks_in p c) i s) (lines_of h)
 shown_kept p h c i s a = subst (λ n. IsAtLeast n (reads_at (verb_asked (asked p c i)) s)) (sym (seen_is c h)) (at_least_reads (seen_by c h) (verb_asked (asked p c i)) s a)
 
-read_kept : (p : Plan) (h : List Entry) (c i : ℕ) (r : Reading) → ViewKept (read_line p h c i r) (lines_of h)
+read_kept : (p : Plan) (h : List Entry) (c i : ℕ) (r : Reading) → ViewKept (read_line c (asks_in p c) (seen_by c h) i r) (lines_of h)
 read_kept p h c i r = let n = max (seen_by c h) r.stamp in shown_kept p h c i (shown_asked n r.node (asked p c i)) (asked_at_least (seen_by c h) n r.node (asked p c i) (at_least_max (seen_by c h) r.stamp))
 
-first_kept : (p : Plan) (h : List Entry) (c : ℕ) (ss : List Sent) (before : List Line) → AreWritten p c ss → AllKept (first_line p h c ss) before
+first_kept : (p : Plan) (h : List Entry) (c : ℕ) (ss : List Sent) (before : List Line) → AreWritten p c ss → AllKept (first_line (wording p c h) ss) before
 first_kept p h c [] before i = tt
 first_kept p h c (s ∷ ss) before i = (written_kept p h c s before i.0, tt)
 
-looked_kept : (p : Plan) (h : List Entry) (c : ℕ) (x : Client) (r : Option Reading) → AreWritten p c x.sent → AllKept (looked_lines p h c x r) (lines_of h)
+looked_kept : (p : Plan) (h : List Entry) (c : ℕ) (x : Client Sent) (r : Option Reading) → AreWritten p c x.sent → AllKept (looked_lines (wording p c h) (seen_by c h) x r) (lines_of h)
 looked_kept p h c x None i = first_kept p h c x.sent (lines_of h) i
-looked_kept p h c x (Some r) i = cond_both (registers (asked p c (x.begun + 1)) r.node) [] (read_line p h c (x.begun + 1) r ∷ []) (λ ls. AllKept ls (lines_of h)) (λ _. tt) (λ _. (read_kept p h c (x.begun + 1) r, tt))
+looked_kept p h c x (Some r) i = cond_both (registers (asked p c (x.begun + 1)) r.node) [] (read_line c (asks_in p c) (seen_by c h) (x.begun + 1) r ∷ []) (λ ls. AllKept ls (lines_of h)) (λ _. tt) (λ _. (read_kept p h c (x.begun + 1) r, tt))
 
-reads_kept : (p : Plan) (h : List Entry) (c i : ℕ) (r : Option Reading) → AllKept (read_lines p h c i r) (lines_of h)
+reads_kept : (p : Plan) (h : List Entry) (c i : ℕ) (r : Option Reading) → AllKept (read_lines c (asks_in p c) (seen_by c h) i r) (lines_of h)
 reads_kept p h c i None = tt
 reads_kept p h c i (Some r) = (read_kept p h c i r, tt)
 
@@ -159,7 +159,7 @@ notice_kept : (c : ℕ) (f : Option Firing) (before : List Line) → AllKept (no
 notice_kept c None before = tt
 notice_kept c (Some f) before = (tt, tt)
 
-own_kept : (p : Plan) (h : List Entry) (c : ℕ) (x : Client) (o : Op) → AreWritten p c x.sent → AllKept (own_lines p h c x o) (lines_of h)
+own_kept : (p : Plan) (h : List Entry) (c : ℕ) (x : Client Sent) (o : Op) → AreWritten p c x.sent → AllKept (own_lines (wording p c h) (sight_of p c h) x o) (lines_of h)
 own_kept p h c x (op.TakeEvicted d k t) i = cond_both x.closed [] (line.Expired c t ∷ []) (λ ls. AllKept ls (lines_of h)) (λ _. tt) (λ _. (tt, tt))
 own_kept p h c x (op.TakeWatch d id) i = cond_both (contains id x.held) (notice_of c (firing_of p id h)) [] (λ ls. AllKept ls (lines_of h)) (λ _. notice_kept c (firing_of p id h) (lines_of h)) (λ _. tt)
 own_kept p h c x (op.LookOk d j m) i = looked_kept p h c x x.reading i
@@ -172,10 +172,10 @@ own_kept p h c x o i = tt
 
 -- the commands that stay unanswered are writes, and what is printed keeps the view
 abbrev StepSo : Plan → List Entry → ℕ → List Line → List Sent → Type 0
-StepSo p h c own ss = AreWritten p c (without_ready ss) × AllKept (own ++ reply_lines p h c (ready_first ss)) (lines_of h)
+StepSo p h c own ss = AreWritten p c (without_ready by_result ss) × AllKept (own ++ reply_lines (wording p c h) (ready_first by_result ss)) (lines_of h)
 
 writes_step : (p : Plan) (h : List Entry) (c : ℕ) (own : List Line) (ss : List Sent) → AllKept own (lines_of h) → AreWritten p c ss → StepSo p h c own ss
-writes_step p h c own ss k i = (unready_written p c ss i, kept_append own (reply_lines p h c (ready_first ss)) (lines_of h) k (λ b. replies_kept p h c (ready_first ss) b (ready_written p c ss i)))
+writes_step p h c own ss k i = (unready_written p c ss i, kept_append own (reply_lines (wording p c h) (ready_first by_result ss)) (lines_of h) k (λ b. replies_kept p h c (ready_first by_result ss) b (ready_written p c ss i)))
 
 abbrev IsNew : ℕ → Result → Type 0
 IsNew seen (Plain cd) = Unit {0}
@@ -200,15 +200,15 @@ local_new : (b : Bool) (seen : ℕ) → IsNew seen (local_result b seen)
 local_new true seen = tt
 local_new false seen = refl
 
-own_step : (p : Plan) (h : List Entry) (c seen mark : ℕ) (ms : List Message) (x : Client) (o : Op) → ActsAs p c x seen mark o → ((d i k : ℕ) → o ≡ op.Send d i k → IsWritten p c i) → AreWritten p c x.sent → StepSo p h c (own_lines p h c x o) (acted p c h ms o x).sent
-own_step p h c seen mark ms x (op.Send d i k) a s w = writes_step p h c [] (x.sent ++ record { command = i; k = k; result = Open } ∷ []) tt (append_written p c x.sent (record { command = i; k = k; result = Open }) w (s d i k refl))
-own_step p h c seen mark ms x (op.SendFault d i) a s w = refused_step p h c i (Plain code.ConnectionLoss) x.sent w tt a.2
-own_step p h c seen mark ms x (op.Local d i) a s w = refused_step p h c i (local_result (is_unfit (asked p c i)) (seen_by c h)) x.sent w (local_new (is_unfit (asked p c i)) (seen_by c h)) a.2
-own_step p h c seen mark ms x (op.TakeDone d k t) a s w = writes_step p h c [] (with_result k (Settled (Committed t)) x.sent) tt (settled_written p c k (Settled (Committed t)) x.sent w)
-own_step p h c seen mark ms x (op.TakeRefused d k) a s w = writes_step p h c [] (settle_kept k (kept_outcome ms) x).sent tt (kept_written p c k (kept_outcome ms) x w)
-own_step p h c seen mark ms x (op.TakeLost d k) a s w = writes_step p h c [] (settle_kept k (kept_outcome ms) x).sent tt (kept_written p c k (kept_outcome ms) x w)
-own_step p h c seen mark ms x (op.LookOk d i m) a s w = writes_step p h c (own_lines p h c x (op.LookOk d i m)) (looked p c x.reading x).sent (own_kept p h c x (op.LookOk d i m) w) (looked_written p c x.reading x w)
-own_step p h c seen mark ms x o a s w = writes_step p h c (own_lines p h c x o) x.sent (own_kept p h c x o w) w
+own_step : (p : Plan) (h : List Entry) (c seen mark : ℕ) (x : Client Sent) (o : Op) → ActsAs p c x seen mark o → ((d i k : ℕ) → o ≡ op.Send d i k → IsWritten p c i) → AreWritten p c x.sent → StepSo p h c (own_lines (wording p c h) (sight_of p c h) x o) (acted_by (sight_of p c h) o x).sent
+own_step p h c seen mark x (op.Send d i k) a s w = writes_step p h c [] (x.sent ++ record { command = i; k = k; result = Open } ∷ []) tt (append_written p c x.sent (record { command = i; k = k; result = Open }) w (s d i k refl))
+own_step p h c seen mark x (op.SendFault d i) a s w = refused_step p h c i (Plain code.ConnectionLoss) x.sent w tt a.2
+own_step p h c seen mark x (op.Local d i) a s w = refused_step p h c i (local_result (is_unfit (asked p c i)) (seen_by c h)) x.sent w (local_new (is_unfit (asked p c i)) (seen_by c h)) a.2
+own_step p h c seen mark x (op.TakeDone d k t) a s w = writes_step p h c [] (with_told by_result k (Settled (Committed t)) x.sent) tt (settled_written p c k (Settled (Committed t)) x.sent w)
+own_step p h c seen mark x (op.TakeRefused d k) a s w = writes_step p h c [] (settle_with by_result k (settled_as (kept_outcome (sight_of p c h).head)) x).sent tt (kept_written p c k (kept_outcome (sight_of p c h).head) x w)
+own_step p h c seen mark x (op.TakeLost d k) a s w = writes_step p h c [] (settle_with by_result k (settled_as (kept_outcome (sight_of p c h).head)) x).sent tt (kept_written p c k (kept_outcome (sight_of p c h).head) x w)
+own_step p h c seen mark x (op.LookOk d i m) a s w = writes_step p h c (own_lines (wording p c h) (sight_of p c h) x (op.LookOk d i m)) (looked by_result (asks_in p c) x.reading x).sent (own_kept p h c x (op.LookOk d i m) w) (looked_written p c x.reading x w)
+own_step p h c seen mark x o a s w = writes_step p h c (own_lines (wording p c h) (sight_of p c h) x o) x.sent (own_kept p h c x o w) w
 
 -- Histories. -------------------------------------------------------------------------------------------
 
@@ -227,12 +227,12 @@ sends_written p h c d i k o v b e f =
     let g = written_is (asked p d i) u.1 u.2 in
     subst (λ z. IsWritten p z i) (some_same d c (sym (ap client_in f) ∙ e)) (subst (λ z. is_write (verb_asked z) ≡ true) (sym g.1) (v d i g.0 u.1 g.1 g.2))
 
-entry_step : (p : Plan) (c : ℕ) (e : Entry) (h : List Entry) → WritesAreWrites p → IsHistory p (e ∷ h) → client_in e.op ≡ Some c → AreWritten p c (client_of p c h).sent → StepSo p h c (own_lines p h c (client_of p c h) e.op) (acted p c h (inbox_of p c h) e.op (client_of p c h)).sent
-entry_step p c e h v l q w = own_step p h c (seen_by c h) (mark_of h) (inbox_of p c h) (client_of p c h) e.op (entry_acts p c e h l q) (λ d i k f. sends_written p h c d i k e.op v (due p e h l) q f) w
+entry_step : (p : Plan) (c : ℕ) (e : Entry) (h : List Entry) → WritesAreWrites p → IsHistory p (e ∷ h) → client_in e.op ≡ Some c → AreWritten p c (client_of p c h).sent → StepSo p h c (own_lines (wording p c h) (sight_of p c h) (client_of p c h) e.op) (acted_by (sight_of p c h) e.op (client_of p c h)).sent
+entry_step p c e h v l q w = own_step p h c (seen_by c h) (mark_of h) (client_of p c h) e.op (entry_acts p c e h l q) (λ d i k f. sends_written p h c d i k e.op v (due p e h l) q f) w
 
-client_written : (p : Plan) (c : ℕ) (e : Entry) (h : List Entry) (o : Option ℕ) → client_in e.op ≡ o → (client_in e.op ≡ Some c → AreWritten p c (flushed (acted p c h (inbox_of p c h) e.op (client_of p c h))).sent) → AreWritten p c (client_of p c h).sent → AreWritten p c (client_by p c o h (inbox_of p c h) e.op (client_of p c h)).sent
+client_written : (p : Plan) (c : ℕ) (e : Entry) (h : List Entry) (o : Option ℕ) → client_in e.op ≡ o → (client_in e.op ≡ Some c → AreWritten p c (flushed by_result (acted_by (sight_of p c h) e.op (client_of p c h))).sent) → AreWritten p c (client_of p c h).sent → AreWritten p c (client_by (sight_of p c h) o e.op (client_of p c h)).sent
 client_written p c e h None q f w = w
-client_written p c e h (Some s) q f w = cond_both (s == c) (flushed (acted p c h (inbox_of p c h) e.op (client_of p c h))) (client_of p c h) (λ y. AreWritten p c y.sent) (λ t. f (q ∙ ap Some (same_number s c t))) (λ _. w)
+client_written p c e h (Some s) q f w = cond_both (s == c) (flushed by_result (acted_by (sight_of p c h) e.op (client_of p c h))) (client_of p c h) (λ y. AreWritten p c y.sent) (λ t. f (q ∙ ap Some (same_number s c t))) (λ _. w)
 
 are_written : (p : Plan) (c : ℕ) (h : List Entry) → WritesAreWrites p → IsHistory p h → AreWritten p c (client_of p c h).sent
 are_written p c [] v l = tt

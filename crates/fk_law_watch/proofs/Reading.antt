@@ -14,16 +14,17 @@ use Rattle.fk_print.specs.declared.line.Line.{Line}
 use Rattle.fk_print.specs.declared.line.Line.TheVariants as line
 use Rattle.fk_print.specs.declared.op.Op.{Op}
 use Rattle.fk_print.specs.declared.op.Op.TheVariants as op
-use Rattle.fk_spec.specs.Plan.{Plan, Ask, Want, Unfit, Writes, Reads, asked}
+use Rattle.fk_spec.specs.Plan.{Plan, Ask, Want, Unfit, Writes, Reads, asked, asks_in}
 use Rattle.fk_spec.specs.Shown.{seen_by, seen_in, seen_lines}
 use Rattle.fk_spec.specs.Start.{starts_of, sends_of}
 use Rattle.fk_spec.specs.Settling.{Outcome, Committed, Refused, Passed, mark_of, mark_in}
 use Rattle.fk_spec.specs.Stored.{committed_as, stamp_of}
 use Rattle.fk_spec.specs.Watches.{Firing, firing_of, last_sweep}
-use Rattle.fk_spec.specs.Lanes.{session_head, leader_head, watch_head, Message, Done, Evicted, Kept, Watch, Ping, inbox_of}
+use Rattle.fk_spec.specs.Lanes.{session_head, leader_head, watch_head, Message, Done, Evicted, Kept, Watch, Ping}
 use Rattle.fk_spec.specs.Function.{place_of, function_op, fault_op}
-use Rattle.fk_spec.specs.Client.{Client, Sent, Reading, Result, Open, Settled, Plain, Expired, all_go_on, watch_number, is_close, client_of, client_by, client_in, client_op, failed_op, acted, flushed, without_ready, ready_first, looked_for, looked_at, close_if, settle_kept, kept_outcome, registers, contains, pong_or, take_or, take_op, look_or, look_sent_or, look_op, held_op, number_read, watch_or, register_asked, register_for, next_command_op, begin_op, local_if, may_begin, is_none_sent, is_write}
-use Rattle.fk_spec.specs.Replies.{client_lines, own_lines, reply_lines, reply_line, first_line, looked_lines, read_line, read_lines, notice_of}
+use Rattle.fk_spec.specs.Sight.{watch_number, sight_of, Sight}
+use Rattle.fk_spec.specs.Client.{by_result, without_ready, ready_first, registers, is_close, is_write, number_read, target_sent, target_of, pong_or, take_op, take_or, contains, held_op, look_op, look_or, register_for, register_asked, watch_or, all_go_on, is_none_sent, may_begin, local_if, begin_op, begin_asked, failed_op, settle_with, close_if, looked_for, looked_at, flushed, kept_outcome, settled_as, acted_by, client_in, client_by, client_of, client_op, Sent, Reading, Client, Target}
+use Rattle.fk_spec.specs.Replies.{reply_line, reply_lines, first_line, read_line, read_lines, looked_lines, notice_of, own_lines, wording, client_lines}
 use Rattle.fk_spec.specs.Next.{IsHistory, next_op, next_lines, lines_of_client, tx_lines, follow_op, lead_op, tell_op, crash_op}
 use Rattle.fk_law_watch.specs.FirstNumbers.{ReadsAreReads, WatchesAreSetUpToTheMark}
 use Rattle.fk_law_watch.specs.Registering.{number_from, number_of_read}
@@ -31,14 +32,14 @@ use Rattle.fk_law_watch.proofs.Registering.{NoClients, function_none, follow_non
 
 -- What a client's operations say of it. ----------------------------------------------------------------
 
-abbrev IsLookedAt : Client → ℕ → ℕ → Type 0
+abbrev IsLookedAt : Client Sent → ℕ → ℕ → Type 0
 IsLookedAt x seen mark = (r : Reading) → x.reading ≡ Some r → x.sent ≡ [] → max seen r.stamp ≤ mark
 
-abbrev WasLookedAt : Client → Type 0
+abbrev WasLookedAt : Client Sent → Type 0
 WasLookedAt x = (r : Reading) → x.reading ≡ Some r → x.sent ≡ [] → r.looked ≡ true
 
 -- what these operations of client c, standing so, say of it
-abbrev ActsAs : Client → ℕ → ℕ → Op → Type 0
+abbrev ActsAs : Client Sent → ℕ → ℕ → Op → Type 0
 ActsAs x seen mark (op.LookOk c i m) = IsLookedAt x seen mark
 ActsAs x seen mark (op.WatchSet c i id) = WasLookedAt x
 ActsAs x seen mark (op.Send c i k) = x.reading ≡ None
@@ -48,7 +49,7 @@ ActsAs x seen mark (op.Read c i s) = x.sent ≡ []
 ActsAs x seen mark _ = Unit {0}
 
 -- and it is of client c
-abbrev Acts : Client → ℕ → ℕ → ℕ → Op → Type 0
+abbrev Acts : Client Sent → ℕ → ℕ → ℕ → Op → Type 0
 Acts x seen mark c o = ActsAs x seen mark o × ((d : ℕ) → client_in o ≡ Some d → d ≡ c)
 
 not_below : (a b : ℕ) → nat_lt a b ≡ false → b ≤ a
@@ -66,44 +67,53 @@ none_some x e = grind arith
 cons_nil : (s : Sent) (ss : List Sent) → s ∷ ss ≡ [] → ⊥
 cons_nil s ss e = grind arith
 
-held_acts : (x : Client) (seen mark c i m : ℕ) (o : Option ℕ) → IsLookedAt x seen mark → Acts x seen mark c (held_op c i m o)
+held_acts : (x : Client Sent) (seen mark c i m : ℕ) (o : Option ℕ) → IsLookedAt x seen mark → Acts x seen mark c (held_op c i m o)
 held_acts x seen mark c i m None b = (b, its c)
 held_acts x seen mark c i m (Some id) b = (tt, its c)
 
-look_acts : (p : Plan) (h : List Entry) (x : Client) (seen mark c i : ℕ) (held : List ℕ) (number : ℕ) → (number ≤ mark_of h → IsLookedAt x seen mark) → Acts x seen mark c (look_op p c h i held number)
-look_acts p h x seen mark c i held number b = cond_both (nat_lt (mark_of h) number) (op.LookBehind c i (mark_of h)) (held_op c i (mark_of h) _) (Acts x seen mark c) (λ _. (tt, its c)) (λ e. held_acts x seen mark c i (mark_of h) _ (b (not_below (mark_of h) number e)))
+look_acts : (s : Sight) (x : Client Sent) (seen : ℕ) (held : List ℕ) (t : Target) → (t.number ≤ s.mark → IsLookedAt x seen s.mark) → Acts x seen s.mark s.session (look_op s held t)
+look_acts s x seen held t b = cond_both (nat_lt s.mark t.number) (op.LookBehind s.session t.command s.mark) (held_op s.session t.command s.mark _) (Acts x seen s.mark s.session) (λ _. (tt, its s.session)) (λ e. held_acts x seen s.mark s.session t.command s.mark _ (b (not_below s.mark t.number e)))
 
-result_acts : (p : Plan) (h : List Entry) (x : Client) (seen mark c : ℕ) (s : Sent) (r : Result) (ss : List Sent) (o : Op) → Acts x seen mark c o → ((number : ℕ) → Acts x seen mark c (look_op p c h s.command x.held number)) → Acts x seen mark c (look_sent_or p c h x (record s { result = r } ∷ ss) o)
-result_acts p h x seen mark c s Open ss o d f = d
-result_acts p h x seen mark c s (Settled (Committed t)) ss o d f = f t
-result_acts p h x seen mark c s (Settled (Refused cd place at)) ss o d f = f at
-result_acts p h x seen mark c s (Settled (Passed loss)) ss o d f = d
-result_acts p h x seen mark c s (Plain cd) ss o d f = d
-result_acts p h x seen mark c s (Expired at) ss o d f = d
+target_acts : (s : Sight) (x : Client Sent) (seen : ℕ) (held : List ℕ) (t : Option Target) (o : Op) → (t ≡ None → Acts x seen s.mark s.session o) → ((u : Target) → t ≡ Some u → u.number ≤ s.mark → IsLookedAt x seen s.mark) → Acts x seen s.mark s.session (look_or s held t o)
+target_acts s x seen held None o d b = d refl
+target_acts s x seen held (Some t) o d b = look_acts s x seen held t (b t refl)
 
-sent_acts : (p : Plan) (h : List Entry) (x : Client) (seen mark c : ℕ) (ss : List Sent) (o : Op) → Acts x seen mark c o → x.sent ≡ ss → Acts x seen mark c (look_sent_or p c h x ss o)
-sent_acts p h x seen mark c [] o d e = d
-sent_acts p h x seen mark c (s ∷ ss) o d e = result_acts p h x seen mark c s s.result ss o d (λ number. look_acts p h x seen mark c s.command x.held number (λ _ r f g. absurd (cons_nil s ss (sym e ∙ g))))
-
-idle_acts : (x : Client) (seen mark c : ℕ) → Acts x seen mark c op.Idle
+idle_acts : (x : Client Sent) (seen mark c : ℕ) → Acts x seen mark c op.Idle
 idle_acts x seen mark c = (tt, λ d e. absurd (none_some d e))
 
-look_or_acts : (p : Plan) (h : List Entry) (x : Client) (c : ℕ) (o : Op) (r : Option Reading) → x.reading ≡ r → (x.reading ≡ None → Acts x (seen_by c h) (mark_of h) c o) → ((r : Reading) → x.reading ≡ Some r → r.looked ≡ true → Acts x (seen_by c h) (mark_of h) c o) → Acts x (seen_by c h) (mark_of h) c (look_or p c h x r o)
-look_or_acts p h x c o None e f g = sent_acts p h x (seen_by c h) (mark_of h) c x.sent o (f e) refl
-look_or_acts p h x c o (Some r) e f g =
-    cond_both r.looked (look_sent_or p c h x x.sent o) (look_op p c h (x.begun + 1) x.held (number_read c h r)) (Acts x (seen_by c h) (mark_of h) c) (λ b. sent_acts p h x (seen_by c h) (mark_of h) c x.sent o (g r e b) refl)
-    (λ _. look_acts p h x (seen_by c h) (mark_of h) c (x.begun + 1) x.held (number_read c h r) (λ a r2 e2 _. subst (λ z. max (seen_by c h) z.stamp ≤ mark_of h) (some_same r r2 (sym e ∙ e2)) a))
+-- what is looked for while nothing is unanswered is the read's number
+target_read : (s : Sight) (x : Client Sent) (r : Option Reading) (t : Target) → x.reading ≡ r → target_of by_result s.seen x r ≡ Some t → t.number ≤ s.mark → IsLookedAt x s.seen s.mark
+target_read s x r t e q b = λ z f g. by_look z (sym e ∙ f) g (subst (λ y. target_of by_result s.seen x y ≡ Some t) (sym e ∙ f) q)
+  where
+    by_sent : (ss : List Sent) → ss ≡ [] → target_sent by_result ss ≡ Some t → ⊥
+    by_sent [] g u = none_some t u
+    by_sent (y ∷ ss) g u = cons_nil y ss g
 
-register_acts : (p : Plan) (h : List Entry) (x : Client) (seen mark c i number : ℕ) (a : Option Ask) → WasLookedAt x → Acts x seen mark c (register_asked p c h i number a)
+    by_look : (z : Reading) → r ≡ Some z → x.sent ≡ [] → target_of by_result s.seen x (Some z) ≡ Some t → max s.seen z.stamp ≤ s.mark
+    by_look z f g u = by_flag z.looked u
+      where
+        by_flag : (b : Bool) → (if b then target_sent by_result x.sent else Some (record { command = x.begun + 1; number = max s.seen z.stamp })) ≡ Some t → max s.seen z.stamp ≤ s.mark
+        by_flag true v = absurd (by_sent x.sent g v)
+        by_flag false v = subst (λ y. y.number ≤ s.mark) (sym (some_same (record { command = x.begun + 1; number = max s.seen z.stamp }) t v)) b
+
+-- a read for which nothing is looked for was looked at
+read_looked : (s : Sight) (x : Client Sent) (r : Reading) → target_of by_result s.seen x (Some r) ≡ None → r.looked ≡ true
+read_looked s x r q = by_flag r.looked refl q
+  where
+    by_flag : (b : Bool) → r.looked ≡ b → (if b then target_sent by_result x.sent else Some (record { command = x.begun + 1; number = max s.seen r.stamp })) ≡ None → r.looked ≡ true
+    by_flag true e v = e
+    by_flag false e v = absurd (none_some (record { command = x.begun + 1; number = max s.seen r.stamp }) (sym v))
+
+register_acts : (p : Plan) (h : List Entry) (x : Client Sent) (seen mark c i number : ℕ) (a : Option Ask) → WasLookedAt x → Acts x seen mark c (register_asked (sight_of p c h) i number a)
 register_acts p h x seen mark c i number None w = idle_acts x seen mark c
 register_acts p h x seen mark c i number (Some a) w = wanted a.want
   where
-    wanted : (v : Want) → Acts x seen mark c (register_for p c h i number v)
+    wanted : (v : Want) → Acts x seen mark c (register_for (sight_of p c h) i number v)
     wanted (Reads q b) = cond_both (nat_lt number (last_sweep p (path_asked q) h)) (op.WatchSwept c i (last_sweep p (path_asked q) h)) (op.WatchSet c i (watch_number p c h (path_asked q) (kind_asked q))) (Acts x seen mark c) (λ _. (tt, its c)) (λ _. (w, its c))
     wanted Unfit = idle_acts x seen mark c
     wanted (Writes r) = idle_acts x seen mark c
 
-local_acts : (x : Client) (seen mark c i : ℕ) (closed : Bool) (o : Op) → x.reading ≡ None → Acts x seen mark c o → Acts x seen mark c (local_if closed c i o)
+local_acts : (x : Client Sent) (seen mark c i : ℕ) (closed : Bool) (o : Op) → x.reading ≡ None → Acts x seen mark c o → Acts x seen mark c (local_if closed c i o)
 local_acts x seen mark c i true o e a = (e, its c)
 local_acts x seen mark c i false o e a = a
 
@@ -111,27 +121,27 @@ none_sent : (ss : List Sent) → is_none_sent ss ≡ true → ss ≡ []
 none_sent [] e = refl
 none_sent (s ∷ ss) e = absurd (false≢true e)
 
-begin_acts : (p : Plan) (h : List Entry) (x : Client) (seen mark c i : ℕ) (closed : Bool) (w : Want) → x.reading ≡ None → ((q : Query) (b : Bool) → w ≡ Reads q b → x.sent ≡ []) → Acts x seen mark c (begin_op p c i h closed w)
+begin_acts : (p : Plan) (h : List Entry) (x : Client Sent) (seen mark c i : ℕ) (closed : Bool) (w : Want) → x.reading ≡ None → ((q : Query) (b : Bool) → w ≡ Reads q b → x.sent ≡ []) → Acts x seen mark c (begin_op (sight_of p c h) i closed w)
 begin_acts p h x seen mark c i closed Unfit e f = (e, its c)
 begin_acts p h x seen mark c i closed (Writes r) e f = local_acts x seen mark c i closed (op.Send c i (sends_of c h + 1)) e (e, its c)
 begin_acts p h x seen mark c i closed (Reads q b) e f = local_acts x seen mark c i closed (op.Read c i (stamp_of (path_asked q) h)) e (f q b refl, its c)
 
-next_acts : (p : Plan) (h : List Entry) (x : Client) (seen mark c : ℕ) (a : Option Ask) → ReadsAreReads p → asked p c (x.begun + 1) ≡ a → x.reading ≡ None → Acts x seen mark c (next_command_op p c h x a)
+next_acts : (p : Plan) (h : List Entry) (x : Client Sent) (seen mark c : ℕ) (a : Option Ask) → ReadsAreReads p → asked p c (x.begun + 1) ≡ a → x.reading ≡ None → Acts x seen mark c (begin_asked by_result (sight_of p c h) x a)
 next_acts p h x seen mark c None k q e = idle_acts x seen mark c
 next_acts p h x seen mark c (Some a) k q e =
-    cond_both (may_begin p c a x.sent) (begin_op p c (x.begun + 1) h x.closed a.want) op.Idle (Acts x seen mark c)
+    cond_both (may_begin by_result (asks_in p c) a x.sent) (begin_op (sight_of p c h) (x.begun + 1) x.closed a.want) op.Idle (Acts x seen mark c)
     (λ b. begin_acts p h x seen mark c (x.begun + 1) x.closed a.want e (λ v w f. none_sent x.sent (shown (is_write a.verb) (k c (x.begun + 1) a v w q f) b)))
     (λ _. idle_acts x seen mark c)
   where
-    shown : (b : Bool) → b ≡ false → (if b then all_go_on p c x.sent else is_none_sent x.sent) ≡ true → is_none_sent x.sent ≡ true
+    shown : (b : Bool) → b ≡ false → (if b then all_go_on by_result (asks_in p c) x.sent else is_none_sent x.sent) ≡ true → is_none_sent x.sent ≡ true
     shown true f g = absurd (false≢true (sym f))
     shown false f g = g
 
-watch_acts : (p : Plan) (h : List Entry) (x : Client) (c : ℕ) (r : Option Reading) → ReadsAreReads p → x.reading ≡ r → ((s : Reading) → r ≡ Some s → s.looked ≡ true) → Acts x (seen_by c h) (mark_of h) c (watch_or p c h x r (next_command_op p c h x (asked p c (x.begun + 1))))
+watch_acts : (p : Plan) (h : List Entry) (x : Client Sent) (c : ℕ) (r : Option Reading) → ReadsAreReads p → x.reading ≡ r → ((s : Reading) → r ≡ Some s → s.looked ≡ true) → Acts x (seen_by c h) (mark_of h) c (watch_or (sight_of p c h) x r (begin_asked by_result (sight_of p c h) x (asked p c (x.begun + 1))))
 watch_acts p h x c None k e f = next_acts p h x (seen_by c h) (mark_of h) c (asked p c (x.begun + 1)) k refl e
-watch_acts p h x c (Some r) k e f = register_acts p h x (seen_by c h) (mark_of h) c (x.begun + 1) (number_read c h r) (asked p c (x.begun + 1)) (λ s a _. f s (sym e ∙ a))
+watch_acts p h x c (Some r) k e f = register_acts p h x (seen_by c h) (mark_of h) c (x.begun + 1) (number_read (seen_by c h) r) (asked p c (x.begun + 1)) (λ s a _. f s (sym e ∙ a))
 
-message_acts : (x : Client) (seen mark c : ℕ) (m : Message) → Acts x seen mark c (take_op c m)
+message_acts : (x : Client Sent) (seen mark c : ℕ) (m : Message) → Acts x seen mark c (take_op c m)
 message_acts x seen mark c (Done k t) = (tt, its c)
 message_acts x seen mark c (Evicted k t) = (tt, its c)
 message_acts x seen mark c (Kept k (Passed loss)) = (tt, its c)
@@ -140,26 +150,32 @@ message_acts x seen mark c (Kept k (Refused cd place at)) = (tt, its c)
 message_acts x seen mark c (Watch watch) = (tt, its c)
 message_acts x seen mark c (Ping ping) = (tt, its c)
 
-take_acts : (x : Client) (seen mark c : ℕ) (ms : List Message) (o : Op) → Acts x seen mark c o → Acts x seen mark c (take_or c ms o)
-take_acts x seen mark c [] o d = d
-take_acts x seen mark c (m ∷ ms) o d = message_acts x seen mark c m
+take_acts : (x : Client Sent) (seen mark c : ℕ) (m : Option Message) (o : Op) → Acts x seen mark c o → Acts x seen mark c (take_or c m o)
+take_acts x seen mark c None o d = d
+take_acts x seen mark c (Some m) o d = message_acts x seen mark c m
 
-pong_acts : (x : Client) (seen mark c : ℕ) (pings : List ℕ) (o : Op) → Acts x seen mark c o → Acts x seen mark c (pong_or c pings o)
+pong_acts : (x : Client Sent) (seen mark c : ℕ) (pings : List ℕ) (o : Op) → Acts x seen mark c o → Acts x seen mark c (pong_or c pings o)
 pong_acts x seen mark c [] o d = d
 pong_acts x seen mark c (n ∷ ns) o d = (tt, its c)
+
+looked_acts : (p : Plan) (c : ℕ) (h : List Entry) (x : Client Sent) → ReadsAreReads p → (r : Option Reading) → x.reading ≡ r → target_of by_result (seen_by c h) x r ≡ None → Acts x (seen_by c h) (mark_of h) c (watch_or (sight_of p c h) x r (begin_asked by_result (sight_of p c h) x (asked p c (x.begun + 1))))
+looked_acts p c h x k None e q = watch_acts p h x c None k e (λ s a. absurd (none_some s a))
+looked_acts p c h x k (Some r) e q = watch_acts p h x c (Some r) k e (λ s a. subst (λ z. z.looked ≡ true) (some_same r s a) (read_looked (sight_of p c h) x r q))
 
 client_acts : (p : Plan) (c : ℕ) (h : List Entry) → ReadsAreReads p → Acts (client_of p c h) (seen_by c h) (mark_of h) c (client_op p c h)
 client_acts p c h k =
     let x = client_of p c h in
-    let o = watch_or p c h x x.reading (next_command_op p c h x (asked p c (x.begun + 1))) in
-    let l = look_or p c h x x.reading o in
-    pong_acts x (seen_by c h) (mark_of h) c x.owed (take_or c (inbox_of p c h) l) (take_acts x (seen_by c h) (mark_of h) c (inbox_of p c h) l
-    (look_or_acts p h x c o x.reading refl (λ e. watch_acts p h x c x.reading k refl (λ s a. absurd (none_some s (sym e ∙ a)))) (λ r e b. watch_acts p h x c x.reading k refl (λ s a. subst (λ z. z.looked ≡ true) (some_same r s (sym e ∙ a)) b))))
+    let s = sight_of p c h in
+    let t = target_of by_result s.seen x x.reading in
+    let o = watch_or s x x.reading (begin_asked by_result s x (asked p c (x.begun + 1))) in
+    let l = look_or s x.held t o in
+    pong_acts x (seen_by c h) (mark_of h) c x.owed (take_or c s.head l) (take_acts x (seen_by c h) (mark_of h) c s.head l
+    (target_acts s x (seen_by c h) x.held t o (looked_acts p c h x k x.reading refl) (λ u. target_read s x x.reading u refl)))
 
 failed_in : (o : Op) (d : ℕ) → client_in (failed_op o) ≡ Some d → client_in o ≡ Some d
 failed_in o d e = grind arith
 
-failed_as : (x : Client) (seen mark : ℕ) (o : Op) → ActsAs x seen mark o → ActsAs x seen mark (failed_op o)
+failed_as : (x : Client Sent) (seen mark : ℕ) (o : Op) → ActsAs x seen mark o → ActsAs x seen mark (failed_op o)
 failed_as x seen mark (op.Send c i k) a = a
 failed_as x seen mark (op.SendFault c i) a = a
 failed_as x seen mark (op.Local c i) a = a
@@ -167,7 +183,7 @@ failed_as x seen mark o a = tt
 
 -- Entries. --------------------------------------------------------------------------------------------
 
-no_client_acts : (x : Client) (seen mark c : ℕ) (o : Op) → NoClients o → ActsAs x seen mark o
+no_client_acts : (x : Client Sent) (seen mark c : ℕ) (o : Op) → NoClients o → ActsAs x seen mark o
 no_client_acts x seen mark c (op.WatchSet d i id) a = absurd a
 no_client_acts x seen mark c (op.LookOk d i m) a = absurd a
 no_client_acts x seen mark c (op.Send d i k) a = absurd a
@@ -198,26 +214,26 @@ pub seen_append : (c : ℕ) (xs ys : List Line) (n : ℕ) → seen_lines c (xs +
 seen_append c [] ys n = refl
 seen_append c (x ∷ xs) ys n = seen_append c xs ys (seen_in c x n)
 
-line_unseen : (p : Plan) (h : List Entry) (c s : ℕ) (x : Sent) (n : ℕ) → (s == c) ≡ false → seen_in c (reply_line p h s x) n ≡ n
+line_unseen : (p : Plan) (h : List Entry) (c s : ℕ) (x : Sent) (n : ℕ) → (s == c) ≡ false → seen_in c (reply_line (wording p s h) x) n ≡ n
 line_unseen p h c s x n e = rw e refl
 
-replies_unseen : (p : Plan) (h : List Entry) (c s : ℕ) (ss : List Sent) (n : ℕ) → (s == c) ≡ false → seen_lines c (reply_lines p h s ss) n ≡ n
+replies_unseen : (p : Plan) (h : List Entry) (c s : ℕ) (ss : List Sent) (n : ℕ) → (s == c) ≡ false → seen_lines c (reply_lines (wording p s h) ss) n ≡ n
 replies_unseen p h c s [] n e = refl
-replies_unseen p h c s (x ∷ ss) n e = ap (seen_lines c (reply_lines p h s ss)) (line_unseen p h c s x n e) ∙ replies_unseen p h c s ss n e
+replies_unseen p h c s (x ∷ ss) n e = ap (seen_lines c (reply_lines (wording p s h) ss)) (line_unseen p h c s x n e) ∙ replies_unseen p h c s ss n e
 
-first_unseen : (p : Plan) (h : List Entry) (c s : ℕ) (ss : List Sent) (n : ℕ) → (s == c) ≡ false → seen_lines c (first_line p h s ss) n ≡ n
+first_unseen : (p : Plan) (h : List Entry) (c s : ℕ) (ss : List Sent) (n : ℕ) → (s == c) ≡ false → seen_lines c (first_line (wording p s h) ss) n ≡ n
 first_unseen p h c s [] n e = refl
 first_unseen p h c s (x ∷ ss) n e = rw e refl
 
-looked_unseen : (p : Plan) (h : List Entry) (c s : ℕ) (x : Client) (r : Option Reading) (n : ℕ) → (s == c) ≡ false → seen_lines c (looked_lines p h s x r) n ≡ n
+looked_unseen : (p : Plan) (h : List Entry) (c s : ℕ) (x : Client Sent) (r : Option Reading) (n : ℕ) → (s == c) ≡ false → seen_lines c (looked_lines (wording p s h) (seen_by s h) x r) n ≡ n
 looked_unseen p h c s x None n e = first_unseen p h c s x.sent n e
-looked_unseen p h c s x (Some r) n e = cond_both (registers (asked p s (x.begun + 1)) r.node) [] (read_line p h s (x.begun + 1) r ∷ []) (λ ls. seen_lines c ls n ≡ n) (λ _. refl) (λ _. rw e refl)
+looked_unseen p h c s x (Some r) n e = cond_both (registers (asked p s (x.begun + 1)) r.node) [] (read_line s (asks_in p s) (seen_by s h) (x.begun + 1) r ∷ []) (λ ls. seen_lines c ls n ≡ n) (λ _. refl) (λ _. rw e refl)
 
 notice_unseen : (c s n : ℕ) (o : Option Firing) → (s == c) ≡ false → seen_lines c (notice_of s o) n ≡ n
 notice_unseen c s n None e = refl
 notice_unseen c s n (Some f) e = rw e refl
 
-read_unseen : (p : Plan) (h : List Entry) (c s i n : ℕ) (r : Option Reading) → (s == c) ≡ false → seen_lines c (read_lines p h s i r) n ≡ n
+read_unseen : (p : Plan) (h : List Entry) (c s i n : ℕ) (r : Option Reading) → (s == c) ≡ false → seen_lines c (read_lines s (asks_in p s) (seen_by s h) i r) n ≡ n
 read_unseen p h c s i n None e = refl
 read_unseen p h c s i n (Some r) e = rw e refl
 
@@ -225,7 +241,7 @@ expired_unseen : (c s t n : ℕ) (closed : Bool) → (s == c) ≡ false → seen
 expired_unseen c s t n true e = refl
 expired_unseen c s t n false e = rw e refl
 
-own_unseen : (p : Plan) (h : List Entry) (c s : ℕ) (x : Client) (o : Op) (n : ℕ) → (s == c) ≡ false → seen_lines c (own_lines p h s x o) n ≡ n
+own_unseen : (p : Plan) (h : List Entry) (c s : ℕ) (x : Client Sent) (o : Op) (n : ℕ) → (s == c) ≡ false → seen_lines c (own_lines (wording p s h) (sight_of p s h) x o) n ≡ n
 own_unseen p h c s x (op.TakeEvicted d k t) n e = expired_unseen c s t n x.closed e
 own_unseen p h c s x (op.TakeWatch d id) n e = cond_both (contains id x.held) (notice_of s (firing_of p id h)) [] (λ ls. seen_lines c ls n ≡ n) (λ _. notice_unseen c s n (firing_of p id h) e) (λ _. refl)
 own_unseen p h c s x (op.LookOk d i m) n e = looked_unseen p h c s x x.reading n e
@@ -237,8 +253,8 @@ own_unseen p h c s x o n e = refl
 pub client_unseen : (p : Plan) (h : List Entry) (c s : ℕ) (o : Op) (n : ℕ) → (s == c) ≡ false → seen_lines c (client_lines p s h o) n ≡ n
 client_unseen p h c s o n e =
     let x = client_of p s h in
-    seen_append c (own_lines p h s x o) (reply_lines p h s (ready_first (acted p s h (inbox_of p s h) o x).sent)) n
-    ∙ replies_unseen p h c s (ready_first (acted p s h (inbox_of p s h) o x).sent) (seen_lines c (own_lines p h s x o) n) e
+    seen_append c (own_lines (wording p s h) (sight_of p s h) x o) (reply_lines (wording p s h) (ready_first by_result (acted_by (sight_of p s h) o x).sent)) n
+    ∙ replies_unseen p h c s (ready_first by_result (acted_by (sight_of p s h) o x).sent) (seen_lines c (own_lines (wording p s h) (sight_of p s h) x o) n) e
     ∙ own_unseen p h c s x o n e
 
 txs_unseen : (c n : ℕ) (a : Option Applied) → seen_lines c (tx_lines a) n ≡ n
@@ -263,15 +279,15 @@ more_marked : (ss : List Sent) (seen m k : ℕ) (r : Option Reading) → m ≤ k
 more_marked ss seen m k None a i = tt
 more_marked ss seen m k (Some r) a i = (i.0, λ b. let c = i.1 b in omega (arith, a, c))
 
-kept_read : (p : Plan) (k : ℕ) (o : Option Outcome) (x : Client) → (flushed (settle_kept k o x)).reading ≡ None
+kept_read : (p : Plan) (k : ℕ) (o : Option Outcome) (x : Client Sent) → (flushed by_result (settle_with by_result k (settled_as o) x)).reading ≡ None
 kept_read p k None x = refl
 kept_read p k (Some o) x = refl
 
-looked_read : (p : Plan) (c : ℕ) (ss : List Sent) (x : Client) → (flushed (looked_for p c ss x)).reading ≡ x.reading
+looked_read : (p : Plan) (c : ℕ) (ss : List Sent) (x : Client Sent) → (flushed by_result (looked_for by_result (asks_in p c) ss x)).reading ≡ x.reading
 looked_read p c [] x = refl
 looked_read p c (s ∷ ss) x = closing (is_close (asked p c s.command))
   where
-    closing : (b : Bool) → (flushed (close_if b (record x { sent = ss }))).reading ≡ x.reading
+    closing : (b : Bool) → (flushed by_result (close_if b (record x { sent = ss }))).reading ≡ x.reading
     closing true = refl
     closing false = refl
 
@@ -279,38 +295,38 @@ no_read : (ss : List Sent) (seen mark : ℕ) (r : Option Reading) → r ≡ None
 no_read ss seen mark r e = subst (ReadSo ss seen mark) (sym e) tt
 
 -- what client c prints with its own operation, standing so
-abbrev lines_by : Plan → List Entry → ℕ → List Message → Client → Op → List Line
-lines_by p h c ms x o = own_lines p h c x o ++ reply_lines p h c (ready_first (acted p c h ms o x).sent)
+abbrev lines_by : Plan → List Entry → ℕ → Client Sent → Op → List Line
+lines_by p h c x o = own_lines (wording p c h) (sight_of p c h) x o ++ reply_lines (wording p c h) (ready_first by_result (acted_by (sight_of p c h) o x).sent)
 
-abbrev AfterOwn : Plan → List Entry → ℕ → List Message → Client → Op → ℕ → ℕ → Type 0
-AfterOwn p h c ms x o seen mark = ReadSo (flushed (acted p c h ms o x)).sent (seen_lines c (lines_by p h c ms x o) seen) (mark_in o mark) (flushed (acted p c h ms o x)).reading
+abbrev AfterOwn : Plan → List Entry → ℕ → Client Sent → Op → ℕ → ℕ → Type 0
+AfterOwn p h c x o seen mark = ReadSo (flushed by_result (acted_by (sight_of p c h) o x)).sent (seen_lines c (lines_by p h c x o) seen) (mark_in o mark) (flushed by_result (acted_by (sight_of p c h) o x)).reading
 
-looked_step : (p : Plan) (h : List Entry) (c : ℕ) (ms : List Message) (x : Client) (r : Reading) (d i m seen mark : ℕ) → x.reading ≡ Some r → x.sent ≡ [] → max seen r.stamp ≤ mark → (g : Bool) → ReadSo (flushed (looked_at g r x)).sent (seen_lines c ((if g then [] else read_line p h c (x.begun + 1) r ∷ []) ++ reply_lines p h c (ready_first (looked_at g r x).sent)) seen) mark (flushed (looked_at g r x)).reading
-looked_step p h c ms x r d i m seen mark e f a true = rw f (refl, λ _. a)
-looked_step p h c ms x r d i m seen mark e f a false = tt
+looked_step : (p : Plan) (h : List Entry) (c : ℕ) (x : Client Sent) (r : Reading) (d i m seen mark : ℕ) → x.reading ≡ Some r → x.sent ≡ [] → max seen r.stamp ≤ mark → (g : Bool) → ReadSo (flushed by_result (looked_at g r x)).sent (seen_lines c ((if g then [] else read_line c (asks_in p c) (seen_by c h) (x.begun + 1) r ∷ []) ++ reply_lines (wording p c h) (ready_first by_result (looked_at g r x).sent)) seen) mark (flushed by_result (looked_at g r x)).reading
+looked_step p h c x r d i m seen mark e f a true = rw f (refl, λ _. a)
+looked_step p h c x r d i m seen mark e f a false = tt
 
-own_step : (p : Plan) (h : List Entry) (c : ℕ) (ms : List Message) (seen mark : ℕ) (o : Op) (rd : Option Reading) (ss : List Sent) (b : ℕ) (hd ow : List ℕ) (cl : Bool) → client_in o ≡ Some c → ActsAs (record { begun = b; sent = ss; held = hd; owed = ow; reading = rd; closed = cl }) seen mark o → ReadSo ss seen mark rd → AfterOwn p h c ms (record { begun = b; sent = ss; held = hd; owed = ow; reading = rd; closed = cl }) o seen mark
-own_step p h c ms seen mark (op.Read d i s) rd ss b hd ow cl e a w = (ap without_ready a, λ z. absurd (false≢true z))
-own_step p h c ms seen mark (op.TakeRefused d k) rd ss b hd ow cl e a w = no_read _ _ _ _ (kept_read p k (kept_outcome ms) (record { begun = b; sent = ss; held = hd; owed = ow; reading = rd; closed = cl }))
-own_step p h c ms seen mark (op.TakeLost d k) rd ss b hd ow cl e a w = no_read _ _ _ _ (kept_read p k (kept_outcome ms) (record { begun = b; sent = ss; held = hd; owed = ow; reading = rd; closed = cl }))
-own_step p h c ms seen mark (op.LookOk d i m) None ss b hd ow cl e a w = no_read _ _ _ _ (looked_read p c ss (record { begun = b; sent = ss; held = hd; owed = ow; reading = None; closed = cl }))
-own_step p h c ms seen mark (op.LookOk d i m) (Some r) [] b hd ow cl e a w = looked_step p h c ms (record { begun = b; sent = []; held = hd; owed = ow; reading = Some r; closed = cl }) r d i m seen mark refl refl (a r refl refl) (registers (asked p c (b + 1)) r.node)
-own_step p h c ms seen mark (op.LookOk d i m) (Some r) (s ∷ ss) b hd ow cl e a w = absurd (cons_nil s ss w.0)
-own_step p h c ms seen mark (op.Send d i k) rd ss b hd ow cl e a w = no_read _ _ _ rd a
-own_step p h c ms seen mark (op.SendFault d i) rd ss b hd ow cl e a w = no_read _ _ _ rd a
-own_step p h c ms seen mark (op.Local d i) rd ss b hd ow cl e a w = no_read _ _ _ rd a
-own_step p h c ms seen mark (op.TakeDone d k t) rd ss b hd ow cl e a w = tt
-own_step p h c ms seen mark (op.TakeEvicted d k t) rd ss b hd ow cl e a w = tt
-own_step p h c ms seen mark (op.TakeWatch d id) rd ss b hd ow cl e a w = tt
-own_step p h c ms seen mark (op.TakePing d n) rd ss b hd ow cl e a w = tt
-own_step p h c ms seen mark (op.WatchSet d i id) rd ss b hd ow cl e a w = tt
-own_step p h c ms seen mark (op.WatchSwept d i t) rd ss b hd ow cl e a w = tt
-own_step p h c ms seen mark (op.ReadFault d i) rd ss b hd ow cl e a w = tt
-own_step p h c ms seen mark (op.WatchFault d i) rd ss b hd ow cl e a w = tt
-own_step p h c ms seen mark (op.PublishOk n t) rd ss b hd ow cl e a w = absurd (none_some c e)
-own_step p h c ms seen mark o None ss b hd ow cl e a w = tt
-own_step p h c ms seen mark o (Some r) [] b hd ow cl e a w = (refl, w.1)
-own_step p h c ms seen mark o (Some r) (s ∷ ss) b hd ow cl e a w = absurd (cons_nil s ss w.0)
+own_step : (p : Plan) (h : List Entry) (c : ℕ) (seen mark : ℕ) (o : Op) (rd : Option Reading) (ss : List Sent) (b : ℕ) (hd ow : List ℕ) (cl : Bool) → client_in o ≡ Some c → ActsAs (record { begun = b; sent = ss; held = hd; owed = ow; reading = rd; closed = cl }) seen mark o → ReadSo ss seen mark rd → AfterOwn p h c (record { begun = b; sent = ss; held = hd; owed = ow; reading = rd; closed = cl }) o seen mark
+own_step p h c seen mark (op.Read d i s) rd ss b hd ow cl e a w = (ap (without_ready by_result) a, λ z. absurd (false≢true z))
+own_step p h c seen mark (op.TakeRefused d k) rd ss b hd ow cl e a w = no_read _ _ _ _ (kept_read p k (kept_outcome (sight_of p c h).head) (record { begun = b; sent = ss; held = hd; owed = ow; reading = rd; closed = cl }))
+own_step p h c seen mark (op.TakeLost d k) rd ss b hd ow cl e a w = no_read _ _ _ _ (kept_read p k (kept_outcome (sight_of p c h).head) (record { begun = b; sent = ss; held = hd; owed = ow; reading = rd; closed = cl }))
+own_step p h c seen mark (op.LookOk d i m) None ss b hd ow cl e a w = no_read _ _ _ _ (looked_read p c ss (record { begun = b; sent = ss; held = hd; owed = ow; reading = None; closed = cl }))
+own_step p h c seen mark (op.LookOk d i m) (Some r) [] b hd ow cl e a w = looked_step p h c (record { begun = b; sent = []; held = hd; owed = ow; reading = Some r; closed = cl }) r d i m seen mark refl refl (a r refl refl) (registers (asked p c (b + 1)) r.node)
+own_step p h c seen mark (op.LookOk d i m) (Some r) (s ∷ ss) b hd ow cl e a w = absurd (cons_nil s ss w.0)
+own_step p h c seen mark (op.Send d i k) rd ss b hd ow cl e a w = no_read _ _ _ rd a
+own_step p h c seen mark (op.SendFault d i) rd ss b hd ow cl e a w = no_read _ _ _ rd a
+own_step p h c seen mark (op.Local d i) rd ss b hd ow cl e a w = no_read _ _ _ rd a
+own_step p h c seen mark (op.TakeDone d k t) rd ss b hd ow cl e a w = tt
+own_step p h c seen mark (op.TakeEvicted d k t) rd ss b hd ow cl e a w = tt
+own_step p h c seen mark (op.TakeWatch d id) rd ss b hd ow cl e a w = tt
+own_step p h c seen mark (op.TakePing d n) rd ss b hd ow cl e a w = tt
+own_step p h c seen mark (op.WatchSet d i id) rd ss b hd ow cl e a w = tt
+own_step p h c seen mark (op.WatchSwept d i t) rd ss b hd ow cl e a w = tt
+own_step p h c seen mark (op.ReadFault d i) rd ss b hd ow cl e a w = tt
+own_step p h c seen mark (op.WatchFault d i) rd ss b hd ow cl e a w = tt
+own_step p h c seen mark (op.PublishOk n t) rd ss b hd ow cl e a w = absurd (none_some c e)
+own_step p h c seen mark o None ss b hd ow cl e a w = tt
+own_step p h c seen mark o (Some r) [] b hd ow cl e a w = (refl, w.1)
+own_step p h c seen mark o (Some r) (s ∷ ss) b hd ow cl e a w = absurd (cons_nil s ss w.0)
 
 pub next_is : (p : Plan) (h : List Entry) (s : ℕ) (o : Op) → client_in o ≡ Some s → next_lines p h o ≡ client_lines p s h o
 next_is p h s (op.PublishOk n t) e = absurd (none_some s e)
@@ -321,12 +337,12 @@ mark_grows m o = grind (arith, nat_tests)
 
 -- client c's read after one more operation with these lines
 abbrev After : Plan → ℕ → List Entry → Op → List Line → Option ℕ → Type 0
-After p c h o ls k = ReadSo (client_by p c k h (inbox_of p c h) o (client_of p c h)).sent (seen_lines c ls (seen_by c h)) (mark_in o (mark_of h)) (client_by p c k h (inbox_of p c h) o (client_of p c h)).reading
+After p c h o ls k = ReadSo (client_by (sight_of p c h) k o (client_of p c h)).sent (seen_lines c ls (seen_by c h)) (mark_in o (mark_of h)) (client_by (sight_of p c h) k o (client_of p c h)).reading
 
 read_step : (p : Plan) (c : ℕ) (h : List Entry) (o : Op) → (client_in o ≡ Some c → ActsAs (client_of p c h) (seen_by c h) (mark_of h) o) → ReadsSo p c h → After p c h o (next_lines p h o) (client_in o)
 read_step p c h o a w = by_client (client_in o) refl
   where
-    x : Client
+    x : Client Sent
     x = client_of p c h
 
     more : ReadSo x.sent (seen_by c h) (mark_in o (mark_of h)) x.reading
@@ -335,15 +351,15 @@ read_step p c h o a w = by_client (client_in o) refl
     same : (s : ℕ) → (s == c) ≡ true → s ≡ c
     same s f = grind (arith, nat_tests)
 
-    own : client_in o ≡ Some c → AfterOwn p h c (inbox_of p c h) x o (seen_by c h) (mark_of h)
-    own q = own_step p h c (inbox_of p c h) (seen_by c h) (mark_of h) o x.reading x.sent x.begun x.held x.owed x.closed q (a q) w
+    own : client_in o ≡ Some c → AfterOwn p h c x o (seen_by c h) (mark_of h)
+    own q = own_step p h c (seen_by c h) (mark_of h) o x.reading x.sent x.begun x.held x.owed x.closed q (a q) w
 
     by_client : (k : Option ℕ) → client_in o ≡ k → After p c h o (next_lines p h o) k
     by_client None q = subst (λ n. ReadSo x.sent n (mark_in o (mark_of h)) x.reading) (sym (none_unseen p h c (seen_by c h) o q)) more
     by_client (Some s) q =
         subst (λ ls. After p c h o ls (Some s)) (sym (next_is p h s o q))
-        (cond_both (s == c) (flushed (acted p c h (inbox_of p c h) o x)) x (λ y. ReadSo y.sent (seen_lines c (client_lines p s h o) (seen_by c h)) (mark_in o (mark_of h)) y.reading)
-        (λ f. let g = same s f in subst (λ z. ReadSo (flushed (acted p c h (inbox_of p c h) o x)).sent (seen_lines c (client_lines p z h o) (seen_by c h)) (mark_in o (mark_of h)) (flushed (acted p c h (inbox_of p c h) o x)).reading) (sym g) (own (q ∙ ap Some g)))
+        (cond_both (s == c) (flushed by_result (acted_by (sight_of p c h) o x)) x (λ y. ReadSo y.sent (seen_lines c (client_lines p s h o) (seen_by c h)) (mark_in o (mark_of h)) y.reading)
+        (λ f. let g = same s f in subst (λ z. ReadSo (flushed by_result (acted_by (sight_of p c h) o x)).sent (seen_lines c (client_lines p z h o) (seen_by c h)) (mark_in o (mark_of h)) (flushed by_result (acted_by (sight_of p c h) o x)).reading) (sym g) (own (q ∙ ap Some g)))
         (λ f. subst (λ n. ReadSo x.sent n (mark_in o (mark_of h)) x.reading) (sym (client_unseen p h c s o (seen_by c h) f)) more))
 
 pub reads_so : (p : Plan) (c : ℕ) (h : List Entry) → ReadsAreReads p → IsHistory p h → ReadsSo p c h

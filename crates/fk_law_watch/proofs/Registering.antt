@@ -12,13 +12,13 @@ use Rattle.fk_print.specs.declared.event.Event.{Event}
 use Rattle.fk_print.specs.declared.event.Event.TheVariants as event
 use Rattle.fk_print.specs.declared.op.Op.{Op}
 use Rattle.fk_print.specs.declared.op.Op.TheVariants as op
-use Rattle.fk_spec.specs.Plan.{Plan, Ask, Want, Unfit, Writes, Reads, asked}
+use Rattle.fk_spec.specs.Plan.{Plan, Ask, Want, Unfit, Writes, Reads, asked, asks_in}
 use Rattle.fk_spec.specs.Start.{Task, Follows, Leads, Notifies, Probes, Push, starts_of, task_of, push_of}
 use Rattle.fk_spec.specs.Locks as locks
 use Rattle.fk_spec.specs.Locks.{granted, first_passed}
-use Rattle.fk_spec.specs.Settling.{Committed, Refused, Passed, settled_of}
+use Rattle.fk_spec.specs.Settling.{settled_of}
 use Rattle.fk_spec.specs.Watches.{watch_asked, last_sweep}
-use Rattle.fk_spec.specs.Lanes.{session_head, leader_head, watch_head, Message, inbox_of}
+use Rattle.fk_spec.specs.Lanes.{session_head, leader_head, watch_head, Message}
 use Rattle.fk_spec.specs.Follower.{Follower, follower_op, session_op, commit_op, commit_locked, ack_op}
 use Rattle.fk_spec.specs.Follower as follower
 use Rattle.fk_spec.specs.Leader.{leader_op, for_push, for_task}
@@ -28,7 +28,9 @@ use Rattle.fk_spec.specs.Teller as teller
 use Rattle.fk_spec.specs.Heartbeat.{beat_op}
 use Rattle.fk_spec.specs.Heartbeat as heartbeat
 use Rattle.fk_spec.specs.Function.{Place, Absent, Following, Leading, Telling, Beating, place_of, function_op, fault_op}
-use Rattle.fk_spec.specs.Client.{Client, Sent, Reading, Result, Open, Settled, Plain, Expired, client_op, client_of, failed_op, number_read, pong_or, take_or, take_op, look_or, look_sent_or, look_op, watch_or, register_asked, register_for, register_op, watch_number, next_command_op, begin_op, may_begin}
+use Rattle.fk_spec.specs.Shown.{seen_by}
+use Rattle.fk_spec.specs.Sight.{watch_number, sight_of, Sight}
+use Rattle.fk_spec.specs.Client.{by_result, number_read, target_of, pong_or, take_op, take_or, look_op, look_or, register_op, register_for, register_asked, watch_or, may_begin, begin_op, begin_asked, failed_op, client_of, client_op, Sent, Reading, Client, Target}
 use Rattle.fk_spec.specs.Next.{next_op, follow_op, lead_op, tell_op, crash_op}
 use Rattle.fk_law_watch.specs.Registering.{number_from, number_of_read, Registers, WatchesAreRegistered}
 
@@ -110,32 +112,17 @@ none_registers p h o d = tt
 
 -- Clients. --------------------------------------------------------------------------------------------
 
-look_none : (p : Plan) (h : List Entry) (c i : ℕ) (held : List ℕ) (number : ℕ) → SetsNone (look_op p c h i held number)
-look_none p h c i held number = grind (arith, nat_tests)
+look_none : (s : Sight) (held : List ℕ) (t : Target) → SetsNone (look_op s held t)
+look_none s held t = grind (arith, nat_tests)
 
-look_registers : (p : Plan) (h : List Entry) (c i : ℕ) (held : List ℕ) (number : ℕ) → Registers p h (look_op p c h i held number)
-look_registers p h c i held number = none_registers p h (look_op p c h i held number) (look_none p h c i held number)
-
-look_result_registers : (p : Plan) (h : List Entry) (c : ℕ) (x : Client) (s : Sent) (r : Result) (ss : List Sent) (o : Op) → Registers p h o → Registers p h (look_sent_or p c h x (record s { result = r } ∷ ss) o)
-look_result_registers p h c x s Open ss o d = d
-look_result_registers p h c x s (Settled (Committed t)) ss o d = look_registers p h c s.command x.held t
-look_result_registers p h c x s (Settled (Refused cd place at)) ss o d = look_registers p h c s.command x.held at
-look_result_registers p h c x s (Settled (Passed loss)) ss o d = d
-look_result_registers p h c x s (Plain cd) ss o d = d
-look_result_registers p h c x s (Expired at) ss o d = d
-
-look_sent_registers : (p : Plan) (h : List Entry) (c : ℕ) (x : Client) (ss : List Sent) (o : Op) → Registers p h o → Registers p h (look_sent_or p c h x ss o)
-look_sent_registers p h c x [] o d = d
-look_sent_registers p h c x (s ∷ ss) o d = look_result_registers p h c x s s.result ss o d
-
-look_or_registers : (p : Plan) (h : List Entry) (c : ℕ) (x : Client) (r : Option Reading) (o : Op) → Registers p h o → Registers p h (look_or p c h x r o)
-look_or_registers p h c x None o d = look_sent_registers p h c x x.sent o d
-look_or_registers p h c x (Some r) o d = cond_both r.looked (look_sent_or p c h x x.sent o) (look_op p c h (x.begun + 1) x.held (number_read c h r)) (Registers p h) (λ _. look_sent_registers p h c x x.sent o d) (λ _. look_registers p h c (x.begun + 1) x.held (number_read c h r))
+look_registers : (p : Plan) (h : List Entry) (s : Sight) (held : List ℕ) (t : Option Target) (o : Op) → Registers p h o → Registers p h (look_or s held t o)
+look_registers p h s held None o d = d
+look_registers p h s held (Some t) o d = none_registers p h (look_op s held t) (look_none s held t)
 
 not_below : (a b : ℕ) → nat_lt a b ≡ false → b ≤ a
 not_below a b e = grind (arith, nat_tests)
 
-register_set : (p : Plan) (h : List Entry) (c i number : ℕ) (w : Bool) (a : Ask) (q : Query) → asked p c i ≡ Some a → a.want ≡ Reads q w → number ≡ number_of_read p c h → Registers p h (register_op p c h i number (path_asked q) (kind_asked q))
+register_set : (p : Plan) (h : List Entry) (c i number : ℕ) (w : Bool) (a : Ask) (q : Query) → asked p c i ≡ Some a → a.want ≡ Reads q w → number ≡ number_of_read p c h → Registers p h (register_op (sight_of p c h) i number (path_asked q) (kind_asked q))
 register_set p h c i number w a q e f g =
     cond_both (nat_lt number (last_sweep p (path_asked q) h)) (op.WatchSwept c i (last_sweep p (path_asked q) h)) (op.WatchSet c i (watch_number p c h (path_asked q) (kind_asked q))) (Registers p h) (λ _. tt)
     (λ b. record { watch = record { id = watch_number p c h (path_asked q) (kind_asked q); session = c; path = path_asked q; kind = kind_asked q }; wanted = wanted; unswept = subst (λ n. last_sweep p (path_asked q) h ≤ n) g (not_below number (last_sweep p (path_asked q) h) b); numbered = refl; its_id = refl; its_session = refl })
@@ -143,36 +130,36 @@ register_set p h c i number w a q e f g =
     wanted : watch_asked (watch_number p c h (path_asked q) (kind_asked q)) c (asked p c i) ≡ Some (record { id = watch_number p c h (path_asked q) (kind_asked q); session = c; path = path_asked q; kind = kind_asked q })
     wanted = rw (e, f) refl
 
-register_wanted : (p : Plan) (h : List Entry) (c i number : ℕ) (a : Ask) (w : Want) → asked p c i ≡ Some a → a.want ≡ w → number ≡ number_of_read p c h → Registers p h (register_for p c h i number w)
+register_wanted : (p : Plan) (h : List Entry) (c i number : ℕ) (a : Ask) (w : Want) → asked p c i ≡ Some a → a.want ≡ w → number ≡ number_of_read p c h → Registers p h (register_for (sight_of p c h) i number w)
 register_wanted p h c i number a (Reads q w) e f g = register_set p h c i number w a q e f g
 register_wanted p h c i number a Unfit e f g = tt
 register_wanted p h c i number a (Writes r) e f g = tt
 
-register_registers : (p : Plan) (h : List Entry) (c i number : ℕ) (a : Option Ask) → asked p c i ≡ a → number ≡ number_of_read p c h → Registers p h (register_asked p c h i number a)
+register_registers : (p : Plan) (h : List Entry) (c i number : ℕ) (a : Option Ask) → asked p c i ≡ a → number ≡ number_of_read p c h → Registers p h (register_asked (sight_of p c h) i number a)
 register_registers p h c i number None e g = tt
 register_registers p h c i number (Some a) e g = register_wanted p h c i number a a.want e refl g
 
-watch_registers : (p : Plan) (h : List Entry) (c : ℕ) (x : Client) (r : Option Reading) (o : Op) → (client_of p c h).reading ≡ r → Registers p h o → Registers p h (watch_or p c h x r o)
+watch_registers : (p : Plan) (h : List Entry) (c : ℕ) (x : Client Sent) (r : Option Reading) (o : Op) → (client_of p c h).reading ≡ r → Registers p h o → Registers p h (watch_or (sight_of p c h) x r o)
 watch_registers p h c x None o e d = d
-watch_registers p h c x (Some r) o e d = register_registers p h c (x.begun + 1) (number_read c h r) (asked p c (x.begun + 1)) refl (ap (number_from c h) (sym e))
+watch_registers p h c x (Some r) o e d = register_registers p h c (x.begun + 1) (number_read (seen_by c h) r) (asked p c (x.begun + 1)) refl (ap (number_from c h) (sym e))
 
-begin_none : (p : Plan) (h : List Entry) (c i : ℕ) (closed : Bool) (w : Want) → SetsNone (begin_op p c i h closed w)
+begin_none : (p : Plan) (h : List Entry) (c i : ℕ) (closed : Bool) (w : Want) → SetsNone (begin_op (sight_of p c h) i closed w)
 begin_none p h c i closed Unfit = tt
 begin_none p h c i true (Writes r) = tt
 begin_none p h c i false (Writes r) = tt
 begin_none p h c i true (Reads q watch) = tt
 begin_none p h c i false (Reads q watch) = tt
 
-next_command_none : (p : Plan) (h : List Entry) (c : ℕ) (x : Client) (a : Option Ask) → SetsNone (next_command_op p c h x a)
+next_command_none : (p : Plan) (h : List Entry) (c : ℕ) (x : Client Sent) (a : Option Ask) → SetsNone (begin_asked by_result (sight_of p c h) x a)
 next_command_none p h c x None = tt
-next_command_none p h c x (Some a) = cond_both (may_begin p c a x.sent) (begin_op p c (x.begun + 1) h x.closed a.want) op.Idle SetsNone (λ _. begin_none p h c (x.begun + 1) x.closed a.want) (λ _. tt)
+next_command_none p h c x (Some a) = cond_both (may_begin by_result (asks_in p c) a x.sent) (begin_op (sight_of p c h) (x.begun + 1) x.closed a.want) op.Idle SetsNone (λ _. begin_none p h c (x.begun + 1) x.closed a.want) (λ _. tt)
 
 message_none : (c : ℕ) (m : Message) → SetsNone (take_op c m)
 message_none c m = grind arith
 
-take_registers : (p : Plan) (h : List Entry) (c : ℕ) (ms : List Message) (o : Op) → Registers p h o → Registers p h (take_or c ms o)
-take_registers p h c [] o d = d
-take_registers p h c (m ∷ ms) o d = none_registers p h (take_op c m) (message_none c m)
+take_registers : (p : Plan) (h : List Entry) (c : ℕ) (m : Option Message) (o : Op) → Registers p h o → Registers p h (take_or c m o)
+take_registers p h c None o d = d
+take_registers p h c (Some m) o d = none_registers p h (take_op c m) (message_none c m)
 
 pong_registers : (p : Plan) (h : List Entry) (c : ℕ) (pings : List ℕ) (o : Op) → Registers p h o → Registers p h (pong_or c pings o)
 pong_registers p h c [] o d = d
@@ -181,10 +168,11 @@ pong_registers p h c (n ∷ ns) o d = tt
 client_registers : (p : Plan) (h : List Entry) (c : ℕ) → Registers p h (client_op p c h)
 client_registers p h c =
     let x = client_of p c h in
-    let o = next_command_op p c h x (asked p c (x.begun + 1)) in
-    let w = watch_or p c h x x.reading o in
-    let l = look_or p c h x x.reading w in
-    pong_registers p h c x.owed (take_or c (inbox_of p c h) l) (take_registers p h c (inbox_of p c h) l (look_or_registers p h c x x.reading w (watch_registers p h c x x.reading o refl (none_registers p h o (next_command_none p h c x (asked p c (x.begun + 1)))))))
+    let s = sight_of p c h in
+    let o = begin_asked by_result s x (asked p c (x.begun + 1)) in
+    let w = watch_or s x x.reading o in
+    let l = look_or s x.held (target_of by_result s.seen x x.reading) w in
+    pong_registers p h c x.owed (take_or c s.head l) (take_registers p h c s.head l (look_registers p h s x.held (target_of by_result s.seen x x.reading) w (watch_registers p h c x x.reading o refl (none_registers p h o (next_command_none p h c x (asked p c (x.begun + 1)))))))
 
 failed_registers : (p : Plan) (h : List Entry) (o : Op) → Registers p h (failed_op o)
 failed_registers p h o = none_registers p h (failed_op o) (none o)

@@ -16,7 +16,7 @@ use Rattle.fk_spec.specs.Plan.{Plan}
 use Rattle.fk_spec.specs.Start.{or_else, when}
 use Rattle.fk_spec.specs.Settling.{is_committed, swept_of}
 use Rattle.fk_spec.specs.Watches.{Watch, Firing, has_id, with_watch, set_after, set_watches, set_number, not_fired, firings, firing_with, firing_in, firing_of, given_of, given_in, touches_of_push}
-use Rattle.fk_spec.specs.Client.{number_or_next}
+use Rattle.fk_spec.specs.Sight.{number_or_next}
 use Rattle.fk_spec.specs.Next.{IsHistory}
 use Rattle.fk_law.specs.Due.{IsDue}
 use Rattle.fk_law.specs.LeaderLane.{sweeps, is_swept}

@@ -4,13 +4,15 @@ use Rattle.fk_print.specs.declared.entry.Entry.{Entry}
 use Rattle.fk_print.specs.declared.op.Op.{Op}
 use Rattle.fk_print.specs.declared.op.Op.TheVariants as op
 use Rattle.fk_spec.specs.Plan.{Plan, asked}
+use Rattle.fk_spec.specs.Shown.{seen_by}
 use Rattle.fk_spec.specs.Watches.{Watch, watch_asked, last_sweep}
-use Rattle.fk_spec.specs.Client.{Reading, client_of, number_read, watch_number}
+use Rattle.fk_spec.specs.Sight.{watch_number}
+use Rattle.fk_spec.specs.Client.{number_read, client_of, Reading}
 use Rattle.fk_spec.specs.Next.{IsHistory}
 
 abbrev pub number_from : ℕ → List Entry → Option Reading → ℕ
 number_from c h None = 0
-number_from c h (Some r) = number_read c h r
+number_from c h (Some r) = number_read (seen_by c h) r
 
 -- the number of client c's read, 0 where it makes none
 abbrev pub number_of_read : Plan → ℕ → List Entry → ℕ

@@ -1,5 +1,6 @@
 pub mod Plan
 pub mod Shown
+pub mod Sight
 pub mod Start
 pub mod Locks
 pub mod Settling

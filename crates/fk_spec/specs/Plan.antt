@@ -150,6 +150,10 @@ abbrev pub or_empty : {A : Type 0} → Option (List A) → List A
 or_empty None = []
 or_empty (Some xs) = xs
 
+-- what the commands of client c ask, in order
+abbrev pub asks_in : Plan → ℕ → List Ask
+asks_in p c = or_empty (nth p.asks c)
+
 -- command i of client c, where there is one
 abbrev pub asked : Plan → ℕ → ℕ → Option Ask
-asked p c i = nth (or_empty (nth p.asks c)) i
+asked p c i = nth (asks_in p c) i
