@@ -94,9 +94,11 @@ fn one_client(alloc: Global) -> Result<Names, NoMemory> {
     Ok(clients)
 }
 
-/// The history that a text says.
-fn read(alloc: Global, clients: &Names, text: &str) -> Result<History, Fail> {
-    match read_back(alloc, clients, text.as_bytes())? {
+/// The history of one client that a text says.
+fn read(alloc: Global, text: &str) -> Result<History, Fail> {
+    let mut clients = Names::new(alloc);
+    clients.push(Text::from_str(alloc, "a")?)?;
+    match read_back(alloc, &clients, text.as_bytes())? {
         Some(history) => Ok(history),
         None => Err(Fail::from("a history")),
     }
@@ -121,7 +123,7 @@ fn is_summed(alloc: Global, history: &History, counts: &str) -> Result<bool, NoM
 /// Whether a text is read as a history with that text and these counts.
 fn is_read_back(alloc: Global, text: &str, counts: &str) -> Result<bool, Fail> {
     let clients = one_client(alloc)?;
-    let history = read(alloc, &clients, text)?;
+    let history = read(alloc, text)?;
     Ok(is_rendered(alloc, &clients, &history, text)? && is_summed(alloc, &history, counts)?)
 }
 
