@@ -48,7 +48,7 @@ use Rattle.fk_agree.specs.Pushes.{Tells}
 use Rattle.fk_agree.specs.Commits.{CommitIsWritten}
 use Rattle.fk_agree.proofs.Carried.{live_push_is_its_message}
 use Rattle.fk_agree.proofs.Telling.{message_tells_its_push}
-use Rattle.fk_agree.proofs.Writing.{arm_stays, changed, changes_leave_done, changes_leave_sessions, changes_written, done_append, done_is_written, faults_stay, freed, no_changes_written, no_releases_written, nodes_written, records_append, releases_leave_done, releases_leave_sessions, releases_written, sessions_append, sessions_written}
+use Rattle.fk_agree.proofs.Writing.{arm_stays, changed, changes_leave_done, changes_leave_sessions, changes_written, done_append, done_is_written, faults_stay, freed, no_changes_written, no_releases_written, nodes_written, records_append, releases_leave_done, releases_leave_sessions, releases_written, same_number, sessions_append, sessions_written}
 
 -- All writes of a commit, at a path and at a session. ---------------------------------------------------
 
@@ -221,9 +221,6 @@ settles_apart : (t : ℕ) (x : Pushed) (s : ℕ) (r : SessionRecord) → (x.sess
 settles_apart t x s r e =
     ap (session_written s (close_writes x.session x.request)) (ap (λ b. cond b (record r { settled = x.k; outcome = kept.Applied t }) r) e)
     ∙ by_test (closes x.request) (λ b. session_written s (cond b (write.CloseSession x.session ∷ []) []) r ≡ r) (λ _. ap (λ b. cond b (record r { closed = true }) r) e) (λ _. refl)
-
-same_number : (n : ℕ) → (n == n) ≡ true
-same_number n = grind (arith, nat_tests)
 
 done_with : (p : Plan) (n t : ℕ) (h : List Entry) (x : Pushed) (c : Commit p n t h x) → with_filled (committed_of p h) t (pushed_of p t h) ≡ applied_as t x ∷ committed_of p h
 done_with p n t h x c = ap (with_filled (committed_of p h) t) c.asks ∙ ap (λ a. a ∷ committed_of p h) (sym c.fills)

@@ -44,7 +44,7 @@ use Rattle.fk_law.proofs.Refusing.{own_each}
 use Rattle.fk_law.proofs.Standing.{OnStanding, standing_step}
 use Rattle.fk_law.proofs.Starting.{follower_task}
 use Rattle.fk_agree.specs.Records.{ExpiredIsGrantedNothing, LossIsWritten, RefusalIsWritten}
-use Rattle.fk_agree.proofs.Writing.{arm_stays, done_append, done_is_written, faults_stay, freed, no_releases_written, nodes_written, records_append, releases_leave_done, releases_leave_sessions, releases_written, sessions_append, sessions_written}
+use Rattle.fk_agree.proofs.Writing.{arm_stays, done_append, done_is_written, faults_stay, freed, no_releases_written, nodes_written, records_append, releases_leave_done, releases_leave_sessions, releases_written, same_number, sessions_append, sessions_written}
 
 -- A follower that expires its request was granted nothing. ----------------------------------------------
 
@@ -79,9 +79,6 @@ refuser_owns p n place at cd h f (follower.Expire a) w l b d q i = absurd (false
 refuser_owns p n place at cd h f s w l b d q i = absurd d
 
 -- Sessions. ---------------------------------------------------------------------------------------------
-
-same_number : (n : ℕ) → (n == n) ≡ true
-same_number n = grind (arith, nat_tests)
 
 -- a session's record with its next request settled so
 abbrev settled_as : ℕ → store.Outcome → SessionRecord → SessionRecord
