@@ -11,7 +11,8 @@ use fk_tree::Part;
 
 /// Writes the words of what a transaction did.
 pub(crate) fn put_act(out: &mut String, clients: &Names, act: &Act) -> Result<(), NoMemory>
-    ensures { OnOk result (string_bytes out.new ≡ string_bytes out.old ++ spaced (act_words act.now)) }
+    ensures { OnOk result (string_bytes out.new ≡ string_bytes out.old
+        ++ spaced (act_words act.now)) }
 {
     use Piece::*;
     match act {
@@ -82,7 +83,8 @@ fn put_parts(out: &mut String, clients: &Names, parts: &[Part]) -> Result<(), No
 }
 
 fn put_part(out: &mut String, clients: &Names, part: &Part) -> Result<(), NoMemory>
-    ensures { OnOk result (string_bytes out.new ≡ string_bytes out.old ++ spaced (part_words part.now)) }
+    ensures { OnOk result (string_bytes out.new ≡ string_bytes out.old
+        ++ spaced (part_words part.now)) }
 {
     use Piece::*;
     match part {

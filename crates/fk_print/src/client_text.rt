@@ -4,6 +4,7 @@ ghost use Rattle.fk_print.specs.Words.{spaced};
 
 use crate::op::Op;
 use crate::piece::{Piece, words};
+use crate::said::{said, said_word};
 use fk_base::{Names, NoMemory};
 
 /// Writes the words of a client's operation, and nothing for any other.
@@ -11,195 +12,27 @@ pub(crate) fn client_operation(out: &mut String, clients: &Names, op: &Op) -> Re
     ensures { OnOk result (string_bytes out.new ≡ string_bytes out.old
         ++ spaced (client_words clients.now op.now)) }
 {
-    use Piece::*;
-    match op {
-        Op::Pong { session, ping } => words(
-            out,
-            clients,
-            &[Client(*session), Word("pong"), Number(*ping)],
-        ),
-        Op::TakeDone { session, k, tx } => words(
-            out,
-            clients,
-            &[Client(*session), Word("take done"), Number(*k), Number(*tx)],
-        ),
-        Op::TakeEvicted { session, k, tx } => words(
-            out,
-            clients,
-            &[
-                Client(*session),
-                Word("take evicted"),
-                Number(*k),
-                Number(*tx),
-            ],
-        ),
-        Op::TakeRefused { session, k } => words(
-            out,
-            clients,
-            &[Client(*session), Word("take refused"), Number(*k)],
-        ),
-        Op::TakeLost { session, k } => words(
-            out,
-            clients,
-            &[Client(*session), Word("take lost"), Number(*k)],
-        ),
-        Op::TakeWatch { session, watch } => words(
-            out,
-            clients,
-            &[Client(*session), Word("take watch"), Number(*watch)],
-        ),
-        Op::TakePing { session, ping } => words(
-            out,
-            clients,
-            &[Client(*session), Word("take ping"), Number(*ping)],
-        ),
-        Op::LookOk {
-            session,
-            command,
-            mark,
-        } => words(
-            out,
-            clients,
-            &[
-                Client(*session),
-                Word("look"),
-                Number(*command as u64),
-                Number(*mark),
-                Word("ok"),
-            ],
-        ),
-        Op::LookBehind {
-            session,
-            command,
-            mark,
-        } => words(
-            out,
-            clients,
-            &[
-                Client(*session),
-                Word("look"),
-                Number(*command as u64),
-                Number(*mark),
-                Word("behind"),
-            ],
-        ),
-        Op::LookHeld {
-            session,
-            command,
-            mark,
-            watch,
-        } => words(
-            out,
-            clients,
-            &[
-                Client(*session),
-                Word("look"),
-                Number(*command as u64),
-                Number(*mark),
-                Word("held"),
-                Number(*watch),
-            ],
-        ),
-        Op::Send {
-            session,
-            command,
-            k,
-        } => words(
-            out,
-            clients,
-            &[
-                Client(*session),
-                Word("send"),
-                Number(*command as u64),
-                Number(*k),
-            ],
-        ),
-        Op::Read {
-            session,
-            command,
-            stamp,
-        } => words(
-            out,
-            clients,
-            &[
-                Client(*session),
-                Word("read"),
-                Number(*command as u64),
-                Number(*stamp),
-            ],
-        ),
-        Op::WatchSet {
-            session,
-            command,
-            watch,
-        } => words(
-            out,
-            clients,
-            &[
-                Client(*session),
-                Word("watch"),
-                Number(*command as u64),
-                Number(*watch),
-            ],
-        ),
-        Op::WatchSwept {
-            session,
-            command,
-            tx,
-        } => words(
-            out,
-            clients,
-            &[
-                Client(*session),
-                Word("watch"),
-                Number(*command as u64),
-                Word("swept"),
-                Number(*tx),
-            ],
-        ),
-        Op::Local { session, command } => words(
-            out,
-            clients,
-            &[Client(*session), Word("local"), Number(*command as u64)],
-        ),
-        Op::PongFault { session } => words(out, clients, &[Client(*session), Word("fault pong")]),
-        Op::TakeFault { session } => words(out, clients, &[Client(*session), Word("fault take")]),
-        Op::LookFault { session, command } => words(
-            out,
-            clients,
-            &[
-                Client(*session),
-                Word("fault look"),
-                Number(*command as u64),
-            ],
-        ),
-        Op::SendFault { session, command } => words(
-            out,
-            clients,
-            &[
-                Client(*session),
-                Word("fault send"),
-                Number(*command as u64),
-            ],
-        ),
-        Op::ReadFault { session, command } => words(
-            out,
-            clients,
-            &[
-                Client(*session),
-                Word("fault read"),
-                Number(*command as u64),
-            ],
-        ),
-        Op::WatchFault { session, command } => words(
-            out,
-            clients,
-            &[
-                Client(*session),
-                Word("fault watch"),
-                Number(*command as u64),
-            ],
-        ),
-        _ => Ok(()),
-    }
+    said!(out, clients, op, Ok(());
+        Pong { session, ping } => [session "pong" ping],
+        TakeDone { session, k, tx } => [session "take done" k tx],
+        TakeEvicted { session, k, tx } => [session "take evicted" k tx],
+        TakeRefused { session, k } => [session "take refused" k],
+        TakeLost { session, k } => [session "take lost" k],
+        TakeWatch { session, watch } => [session "take watch" watch],
+        TakePing { session, ping } => [session "take ping" ping],
+        LookOk { session, command, mark } => [session "look" command mark "ok"],
+        LookBehind { session, command, mark } => [session "look" command mark "behind"],
+        LookHeld { session, command, mark, watch } => [session "look" command mark "held" watch],
+        Send { session, command, k } => [session "send" command k],
+        Read { session, command, stamp } => [session "read" command stamp],
+        WatchSet { session, command, watch } => [session "watch" command watch],
+        WatchSwept { session, command, tx } => [session "watch" command "swept" tx],
+        Local { session, command } => [session "local" command],
+        PongFault { session } => [session "fault pong"],
+        TakeFault { session } => [session "fault take"],
+        LookFault { session, command } => [session "fault look" command],
+        SendFault { session, command } => [session "fault send" command],
+        ReadFault { session, command } => [session "fault read" command],
+        WatchFault { session, command } => [session "fault watch" command],
+    )
 }

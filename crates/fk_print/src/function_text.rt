@@ -5,6 +5,7 @@ ghost use Rattle.fk_print.specs.Words.{spaced};
 use crate::client_text::client_operation;
 use crate::op::Op;
 use crate::piece::{Piece, words};
+use crate::said::{said, said_word};
 use fk_base::{Names, NoMemory};
 
 /// Writes the words of a follower's operation, and passes any other on.
@@ -12,136 +13,24 @@ pub(crate) fn follower_operation(out: &mut String, clients: &Names, op: &Op) -> 
     ensures { OnOk result (string_bytes out.new ≡ string_bytes out.old
         ++ spaced (follower_words clients.now op.now)) }
 {
-    use Piece::*;
-    match op {
-        Op::SessionNew { function } => words(
-            out,
-            clients,
-            &[Number(*function), Word("session new")],
-        ),
-        Op::SessionClosed { function } => words(
-            out,
-            clients,
-            &[Number(*function), Word("session closed")],
-        ),
-        Op::SessionApplied { function } => words(
-            out,
-            clients,
-            &[Number(*function), Word("session applied")],
-        ),
-        Op::SessionRefused { function } => words(
-            out,
-            clients,
-            &[Number(*function), Word("session refused")],
-        ),
-        Op::SessionPast { function } => words(
-            out,
-            clients,
-            &[Number(*function), Word("session past")],
-        ),
-        Op::Owned { function, count } => words(
-            out,
-            clients,
-            &[Number(*function), Word("owned"), Number(*count)],
-        ),
-        Op::LockOk { function, path } => words(
-            out,
-            clients,
-            &[Number(*function), Word("lock"), Path(path), Word("ok")],
-        ),
-        Op::LockBusy {
-            function,
-            path,
-            holder,
-            moment,
-        } => words(
-            out,
-            clients,
-            &[
-                Number(*function),
-                Word("lock"),
-                Path(path),
-                Word("busy"),
-                Number(*holder),
-                Number(*moment),
-            ],
-        ),
-        Op::Push { function, tx } => words(
-            out,
-            clients,
-            &[Number(*function), Word("push"), Number(*tx)],
-        ),
-        Op::RefuseOk {
-            function,
-            code,
-            place,
-            at,
-        } => words(
-            out,
-            clients,
-            &[
-                Number(*function),
-                Word("refuse"),
-                Code(*code),
-                Place(*place),
-                At(*at),
-                Word("ok"),
-            ],
-        ),
-        Op::RefuseSettled {
-            function,
-            code,
-            place,
-            at,
-            settled,
-        } => words(
-            out,
-            clients,
-            &[
-                Number(*function),
-                Word("refuse"),
-                Code(*code),
-                Place(*place),
-                At(*at),
-                Word("miss settled"),
-                Number(*settled),
-            ],
-        ),
-        Op::RefuseLock {
-            function,
-            code,
-            place,
-            at,
-            path,
-            holder,
-            moment,
-        } => words(
-            out,
-            clients,
-            &[
-                Number(*function),
-                Word("refuse"),
-                Code(*code),
-                Place(*place),
-                At(*at),
-                Word("miss lock"),
-                Path(path),
-                Number(*holder),
-                Number(*moment),
-            ],
-        ),
-        Op::LostOk { function } => words(out, clients, &[Number(*function), Word("lost ok")]),
-        Op::LostSettled { function, settled } => words(
-            out,
-            clients,
-            &[
-                Number(*function),
-                Word("lost miss settled"),
-                Number(*settled),
-            ],
-        ),
-        _ => leader_operation(out, clients, op),
-    }
+    said!(out, clients, op, leader_operation(out, clients, op);
+        SessionNew { function } => [function "session new"],
+        SessionClosed { function } => [function "session closed"],
+        SessionApplied { function } => [function "session applied"],
+        SessionRefused { function } => [function "session refused"],
+        SessionPast { function } => [function "session past"],
+        Owned { function, count } => [function "owned" count],
+        LockOk { function, path } => [function "lock" path "ok"],
+        LockBusy { function, path, holder, moment } => [function "lock" path "busy" holder moment],
+        Push { function, tx } => [function "push" tx],
+        RefuseOk { function, code, place, at } => [function "refuse" code place at "ok"],
+        RefuseSettled { function, code, place, at, settled } =>
+            [function "refuse" code place at "miss settled" settled],
+        RefuseLock { function, code, place, at, path, holder, moment } =>
+            [function "refuse" code place at "miss lock" path holder moment],
+        LostOk { function } => [function "lost ok"],
+        LostSettled { function, settled } => [function "lost miss settled" settled],
+    )
 }
 
 /// Writes the words of a leader's operation, and passes any other on.
@@ -149,138 +38,21 @@ fn leader_operation(out: &mut String, clients: &Names, op: &Op) -> Result<(), No
     ensures { OnOk result (string_bytes out.new ≡ string_bytes out.old
         ++ spaced (leader_words clients.now op.now)) }
 {
-    use Piece::*;
-    match op {
-        Op::PendingYes { function, tx } => words(
-            out,
-            clients,
-            &[Number(*function), Word("pending"), Number(*tx), Word("yes")],
-        ),
-        Op::PendingNo { function, tx } => words(
-            out,
-            clients,
-            &[Number(*function), Word("pending"), Number(*tx), Word("no")],
-        ),
-        Op::DropOk { function, tx } => words(
-            out,
-            clients,
-            &[Number(*function), Word("drop"), Number(*tx), Word("ok")],
-        ),
-        Op::DropMiss { function, tx, done } => words(
-            out,
-            clients,
-            &[
-                Number(*function),
-                Word("drop"),
-                Number(*tx),
-                Word("miss"),
-                Number(*done),
-            ],
-        ),
-        Op::SweepOk {
-            function,
-            tx,
-            fired,
-        } => words(
-            out,
-            clients,
-            &[
-                Number(*function),
-                Word("sweep"),
-                Number(*tx),
-                Word("ok"),
-                Number(*fired),
-            ],
-        ),
-        Op::SweepMiss {
-            function,
-            tx,
-            swept,
-            fired,
-        } => words(
-            out,
-            clients,
-            &[
-                Number(*function),
-                Word("sweep"),
-                Number(*tx),
-                Word("miss"),
-                Number(*swept),
-                Number(*fired),
-            ],
-        ),
-        Op::PutOk { function, tx, path } => words(
-            out,
-            clients,
-            &[
-                Number(*function),
-                Word("put"),
-                Number(*tx),
-                Path(path),
-                Word("ok"),
-            ],
-        ),
-        Op::PutMiss {
-            function,
-            tx,
-            path,
-            stamp,
-        } => words(
-            out,
-            clients,
-            &[
-                Number(*function),
-                Word("put"),
-                Number(*tx),
-                Path(path),
-                Word("miss"),
-                Number(*stamp),
-            ],
-        ),
-        Op::PublishOk { function, tx } => words(
-            out,
-            clients,
-            &[Number(*function), Word("publish"), Number(*tx), Word("ok")],
-        ),
-        Op::PublishMiss { function, tx, mark } => words(
-            out,
-            clients,
-            &[
-                Number(*function),
-                Word("publish"),
-                Number(*tx),
-                Word("miss"),
-                Number(*mark),
-            ],
-        ),
-        Op::Notify { function, tx, note } => words(
-            out,
-            clients,
-            &[
-                Number(*function),
-                Word("notify"),
-                Number(*tx),
-                Number(*note),
-            ],
-        ),
-        Op::DoneOk { function, tx } => words(
-            out,
-            clients,
-            &[Number(*function), Word("done"), Number(*tx), Word("ok")],
-        ),
-        Op::DoneMiss { function, tx, done } => words(
-            out,
-            clients,
-            &[
-                Number(*function),
-                Word("done"),
-                Number(*tx),
-                Word("miss"),
-                Number(*done),
-            ],
-        ),
-        _ => notifier_operation(out, clients, op),
-    }
+    said!(out, clients, op, notifier_operation(out, clients, op);
+        PendingYes { function, tx } => [function "pending" tx "yes"],
+        PendingNo { function, tx } => [function "pending" tx "no"],
+        DropOk { function, tx } => [function "drop" tx "ok"],
+        DropMiss { function, tx, done } => [function "drop" tx "miss" done],
+        SweepOk { function, tx, fired } => [function "sweep" tx "ok" fired],
+        SweepMiss { function, tx, swept, fired } => [function "sweep" tx "miss" swept fired],
+        PutOk { function, tx, path } => [function "put" tx path "ok"],
+        PutMiss { function, tx, path, stamp } => [function "put" tx path "miss" stamp],
+        PublishOk { function, tx } => [function "publish" tx "ok"],
+        PublishMiss { function, tx, mark } => [function "publish" tx "miss" mark],
+        Notify { function, tx, note } => [function "notify" tx note],
+        DoneOk { function, tx } => [function "done" tx "ok"],
+        DoneMiss { function, tx, done } => [function "done" tx "miss" done],
+    )
 }
 
 /// Writes the words of a watch function's or a heartbeat's operation, and passes any other on.
@@ -288,72 +60,16 @@ fn notifier_operation(out: &mut String, clients: &Names, op: &Op) -> Result<(), 
     ensures { OnOk result (string_bytes out.new ≡ string_bytes out.old
         ++ spaced (notifier_words clients.now op.now)) }
 {
-    use Piece::*;
-    match op {
-        Op::Tell {
-            function,
-            session,
-            watch,
-        } => words(
-            out,
-            clients,
-            &[
-                Number(*function),
-                Word("tell"),
-                Client(*session),
-                Number(*watch),
-            ],
-        ),
-        Op::Told { function, tx } => words(
-            out,
-            clients,
-            &[Number(*function), Word("told"), Number(*tx)],
-        ),
-        Op::ProbeClosed { function } => words(
-            out,
-            clients,
-            &[Number(*function), Word("probe closed")],
-        ),
-        Op::ProbeFresh { function } => words(
-            out,
-            clients,
-            &[Number(*function), Word("probe fresh")],
-        ),
-        Op::ProbeWaiting { function } => words(
-            out,
-            clients,
-            &[Number(*function), Word("probe waiting")],
-        ),
-        Op::ProbeLate {
-            function,
-            ping,
-            moment,
-        } => words(
-            out,
-            clients,
-            &[
-                Number(*function),
-                Word("probe late"),
-                Number(*ping),
-                Number(*moment),
-            ],
-        ),
-        Op::Ping { function, session } => words(
-            out,
-            clients,
-            &[Number(*function), Word("ping"), Client(*session)],
-        ),
-        Op::NoteOk { function } => words(out, clients, &[Number(*function), Word("note ok")]),
-        Op::NoteMiss { function, ping } => words(
-            out,
-            clients,
-            &[Number(*function), Word("note miss"), Number(*ping)],
-        ),
-        Op::Evict { function, k } => words(
-            out,
-            clients,
-            &[Number(*function), Word("evict"), Number(*k)],
-        ),
-        _ => client_operation(out, clients, op),
-    }
+    said!(out, clients, op, client_operation(out, clients, op);
+        Tell { function, session, watch } => [function "tell" session watch],
+        Told { function, tx } => [function "told" tx],
+        ProbeClosed { function } => [function "probe closed"],
+        ProbeFresh { function } => [function "probe fresh"],
+        ProbeWaiting { function } => [function "probe waiting"],
+        ProbeLate { function, ping, moment } => [function "probe late" ping moment],
+        Ping { function, session } => [function "ping" session],
+        NoteOk { function } => [function "note ok"],
+        NoteMiss { function, ping } => [function "note miss" ping],
+        Evict { function, k } => [function "evict" k],
+    )
 }

@@ -18,6 +18,7 @@ mod op_copy;
 mod op_text;
 mod piece;
 mod reply_text;
+mod said;
 mod summary_text;
 mod worked;
 

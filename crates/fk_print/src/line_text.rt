@@ -39,7 +39,8 @@ pub(crate) fn put_lines(out: &mut String, clients: &Names, lines: &[Line]) -> Re
 }
 
 fn put_public(out: &mut String, clients: &Names, line: &Line) -> Result<(), NoMemory>
-    ensures { OnOk result (string_bytes out.new ≡ string_bytes out.old ++ line_text clients.now line.now) }
+    ensures { OnOk result (string_bytes out.new ≡ string_bytes out.old
+        ++ line_text clients.now line.now) }
 {
     use Piece::*;
     match line {
@@ -73,7 +74,8 @@ fn put_public(out: &mut String, clients: &Names, line: &Line) -> Result<(), NoMe
 }
 
 fn put_transaction(out: &mut String, clients: &Names, printed: &Printed) -> Result<(), NoMemory>
-    ensures { OnOk result (string_bytes out.new ≡ string_bytes out.old ++ tx_text clients.now printed.now) }
+    ensures { OnOk result (string_bytes out.new ≡ string_bytes out.old
+        ++ tx_text clients.now printed.now) }
 {
     use Piece::*;
     out.push_str("+")?;

@@ -5,6 +5,7 @@ ghost use Rattle.fk_print.specs.Words.{spaced};
 use crate::function_text::follower_operation;
 use crate::op::{Op, Word};
 use crate::piece::{Piece, words};
+use crate::said::{said, said_word};
 use fk_base::{Names, NoMemory};
 
 impl Word {
@@ -41,7 +42,8 @@ impl Word {
 
 /// Writes the line of an operation.
 pub(crate) fn put_op(out: &mut String, clients: &Names, op: &Op) -> Result<(), NoMemory>
-    ensures { OnOk result (string_bytes out.new ≡ string_bytes out.old ++ op_text clients.now op.now) }
+    ensures { OnOk result (string_bytes out.new ≡ string_bytes out.old
+        ++ op_text clients.now op.now) }
 {
     out.push_str(".")?;
     operation(out, clients, op)?;
@@ -54,100 +56,21 @@ fn operation(out: &mut String, clients: &Names, op: &Op) -> Result<(), NoMemory>
     ensures { OnOk result (string_bytes out.new ≡ string_bytes out.old
         ++ spaced (op_words clients.now op.now)) }
 {
-    use Piece::*;
-    match op {
-        Op::Idle => words(out, clients, &[Word("idle")]),
-        Op::Clock { moment } => words(out, clients, &[Word("clock"), Number(*moment)]),
-        Op::Follower {
-            function,
-            session,
-            k,
-        } => words(
-            out,
-            clients,
-            &[
-                Number(*function),
-                Word("follower"),
-                Client(*session),
-                Number(*k),
-            ],
-        ),
-        Op::Leader { function, tx } => words(
-            out,
-            clients,
-            &[Number(*function), Word("leader"), Number(*tx)],
-        ),
-        Op::Teller { function, note } => words(
-            out,
-            clients,
-            &[Number(*function), Word("teller"), Number(*note)],
-        ),
-        Op::Beat { function, session } => words(
-            out,
-            clients,
-            &[Number(*function), Word("beat"), Client(*session)],
-        ),
-        Op::Crash { function } => words(out, clients, &[Number(*function), Word("crash")]),
-        Op::Fault { function, word } => words(
-            out,
-            clients,
-            &[Number(*function), Word("fault"), Word(word.text())],
-        ),
-        Op::CommitOk { function, tx } => words(
-            out,
-            clients,
-            &[Number(*function), Word("commit"), Number(*tx), Word("ok")],
-        ),
-        Op::CommitSettled {
-            function,
-            tx,
-            settled,
-        } => words(
-            out,
-            clients,
-            &[
-                Number(*function),
-                Word("commit"),
-                Number(*tx),
-                Word("miss settled"),
-                Number(*settled),
-            ],
-        ),
-        Op::CommitLock {
-            function,
-            tx,
-            path,
-            holder,
-            moment,
-        } => words(
-            out,
-            clients,
-            &[
-                Number(*function),
-                Word("commit"),
-                Number(*tx),
-                Word("miss lock"),
-                Path(path),
-                Number(*holder),
-                Number(*moment),
-            ],
-        ),
-        Op::Reply {
-            function,
-            session,
-            k,
-        } => words(
-            out,
-            clients,
-            &[
-                Number(*function),
-                Word("reply"),
-                Client(*session),
-                Number(*k),
-            ],
-        ),
-        Op::AckOk { function } => words(out, clients, &[Number(*function), Word("ack ok")]),
-        Op::AckGone { function } => words(out, clients, &[Number(*function), Word("ack gone")]),
-        _ => follower_operation(out, clients, op),
-    }
+    said!(out, clients, op, follower_operation(out, clients, op);
+        Idle => ["idle"],
+        Clock { moment } => ["clock" moment],
+        Follower { function, session, k } => [function "follower" session k],
+        Leader { function, tx } => [function "leader" tx],
+        Teller { function, note } => [function "teller" note],
+        Beat { function, session } => [function "beat" session],
+        Crash { function } => [function "crash"],
+        Fault { function, word } => [function "fault" word],
+        CommitOk { function, tx } => [function "commit" tx "ok"],
+        CommitSettled { function, tx, settled } => [function "commit" tx "miss settled" settled],
+        CommitLock { function, tx, path, holder, moment } =>
+            [function "commit" tx "miss lock" path holder moment],
+        Reply { function, session, k } => [function "reply" session k],
+        AckOk { function } => [function "ack ok"],
+        AckGone { function } => [function "ack gone"],
+    )
 }

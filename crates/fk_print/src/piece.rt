@@ -76,7 +76,8 @@ fn put_piece(out: &mut String, clients: &Names, piece: &Piece) -> Result<(), NoM
 }
 
 fn put_client(out: &mut String, clients: &Names, session: u32) -> Result<(), NoMemory>
-    ensures { OnOk result (string_bytes out.new ≡ string_bytes out.old ++ client clients.now session) }
+    ensures { OnOk result (string_bytes out.new ≡ string_bytes out.old
+        ++ client clients.now session) }
 {
     let names = clients.as_slice();
     let place = session as usize;
@@ -119,7 +120,8 @@ fn put_data(out: &mut String, bytes: &[u8]) -> Result<(), NoMemory>
 /// The bytes as text, where a word may show each of them.
 #[tactic(auto, using(crate::proofs::Texts::not_plain))]
 fn plain_text(bytes: &[u8]) -> Option<&str>
-    ensures some { IfSome result (λ text. IsTrue (list_all is_plain bytes.now) × (text.now ≡ bytes.now)) }
+    ensures some { IfSome result (λ text. IsTrue (list_all is_plain bytes.now)
+        × (text.now ≡ bytes.now)) }
     ensures none { IfNone result (list_all is_plain bytes.now ≡ false) }
 {
     match str::from_utf8(bytes) {

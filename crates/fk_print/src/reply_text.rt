@@ -9,7 +9,8 @@ use fk_tree::{PartReply, Stat};
 
 /// Writes the words of what a command is answered.
 pub(crate) fn put_shown(out: &mut String, clients: &Names, shown: &Shown) -> Result<(), NoMemory>
-    ensures { OnOk result (string_bytes out.new ≡ string_bytes out.old ++ spaced (shown_words shown.now)) }
+    ensures { OnOk result (string_bytes out.new ≡ string_bytes out.old
+        ++ spaced (shown_words shown.now)) }
 {
     use Piece::*;
     match shown {
@@ -82,7 +83,8 @@ pub(crate) fn put_shown(out: &mut String, clients: &Names, shown: &Shown) -> Res
 }
 
 fn put_stat(out: &mut String, clients: &Names, stat: &Stat) -> Result<(), NoMemory>
-    ensures { OnOk result (string_bytes out.new ≡ string_bytes out.old ++ spaced (stat_words stat.now)) }
+    ensures { OnOk result (string_bytes out.new ≡ string_bytes out.old
+        ++ spaced (stat_words stat.now)) }
 {
     use Piece::Number;
     words(

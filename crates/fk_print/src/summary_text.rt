@@ -128,7 +128,8 @@ fn put_counts(out: &mut String, counts: Counts) -> Result<(), NoMemory>
 }
 
 fn put_count(out: &mut String, word: &str, count: u64) -> Result<(), NoMemory>
-    ensures { OnOk result (string_bytes out.new ≡ string_bytes out.old ++ count_text word.now count) }
+    ensures { OnOk result (string_bytes out.new ≡ string_bytes out.old
+        ++ count_text word.now count) }
 {
     out.push_str(word)?;
     write!(out, " {count}\n")?;
