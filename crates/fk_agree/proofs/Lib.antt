@@ -5,6 +5,7 @@ mod Finishing
 mod Granting
 mod Listing
 mod Locking
+pub mod Messages
 mod Posting
 mod Putting
 mod Settling

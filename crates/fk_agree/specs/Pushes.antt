@@ -1,5 +1,5 @@
 -- The message of a push and what the push is committed as.
-use Rattle.std.specs.Prelude.{◌≡◌, ℕ, List, Some}
+use Rattle.std.specs.Prelude.{◌≡◌, ℕ, List, ◌∷◌, Some}
 use Rattle.fk_tree.specs.declared.applied.Applied.{Applied}
 use Rattle.fk_print.specs.declared.entry.Entry.{Entry}
 use Rattle.fk_wire.specs.declared.message.Pushed.{Pushed}
@@ -31,3 +31,10 @@ pub record Tells (x : Pushed) (n c k : ℕ) (h : List Entry) : Type 0 where
 
 abbrev pub MessageTellsItsPush : Type 0
 MessageTellsItsPush = (p : Plan) (t n c k : ℕ) (h : List Entry) (x : Pushed) → IsHistory p h → IsPushOf t n c k h → push_message_of p t h ≡ Some x → Tells x n c k h
+
+-- Each push has its message, and keeps it.
+abbrev pub PushHasItsMessage : Type 0
+PushHasItsMessage = (p : Plan) (t n c k : ℕ) (h : List Entry) → IsHistory p h → IsPushOf t n c k h → (x : Pushed) × (push_message_of p t h ≡ Some x)
+
+abbrev pub MessageNeverChanges : Type 0
+MessageNeverChanges = (p : Plan) (t : ℕ) (e : Entry) (h : List Entry) (x : Pushed) → IsHistory p (e ∷ h) → push_message_of p t h ≡ Some x → push_message_of p t (e ∷ h) ≡ Some x

@@ -8,7 +8,7 @@ mod storage;
 mod tables;
 
 pub use lanes::{heads_are_the_rules, letters_are_pushed_and_popped, post_starts_and_stays};
-pub use pushes::{message_tells_its_push, push_is_its_commit};
+pub use pushes::{message_tells_its_push, push_has_its_message, push_is_its_commit};
 pub use storage::{put_is_written, storage_starts_and_stays};
 pub use tables::{
     commit_is_written, finish_is_written, grant_is_written, ping_is_written, refusal_is_written,
