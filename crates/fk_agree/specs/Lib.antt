@@ -6,4 +6,6 @@ pub mod Commits
 pub mod Letters
 pub mod Pushes
 pub mod Records
+pub mod Services
 pub mod Stored
+pub mod Watched
