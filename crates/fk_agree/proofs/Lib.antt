@@ -4,6 +4,7 @@ pub mod Counting
 pub mod Finishing
 pub mod Firing
 pub mod Granting
+pub mod Heading
 pub mod Listing
 pub mod Locking
 pub mod Posting

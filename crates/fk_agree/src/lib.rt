@@ -9,7 +9,10 @@ mod storage;
 mod tables;
 mod watches;
 
-pub use lanes::{heads_are_the_rules, letters_are_pushed_and_popped, post_starts_and_stays};
+pub use lanes::{
+    heads_are_the_rules, heads_are_their_messages, letters_are_pushed_and_popped,
+    post_starts_and_stays,
+};
 pub use pushes::{message_tells_its_push, push_is_its_commit};
 pub use services::services_start_and_stay;
 pub use storage::{put_is_written, storage_starts_and_stays};
