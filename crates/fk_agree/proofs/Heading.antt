@@ -2,26 +2,24 @@
 use Rattle.std.specs.Prelude.{◌==◌, option_map}
 use Rattle.std.specs.List.{AllByRecursion}
 use Rattle.std.proofs.Common.{◌≡◌, ℕ, ◌+◌, ◌≤◌, ◌++◌, Bool, true, false, cond, List, [], ◌∷◌, refl, sym, ◌∙◌, ap, subst, arith, Option, Some, None}
-use Rattle.std.proofs.lemmas.Bool.{false≢true}
 use Rattle.std.proofs.lemmas.Bool.Decides.{nat_tests}
 use Rattle.fk_print.specs.declared.entry.Entry.{Entry}
 use Rattle.fk_print.specs.declared.op.Op.{Op}
 use Rattle.fk_print.specs.declared.op.Op.TheVariants as op
 use Rattle.fk_queue.specs.declared.lane.Lane.TheVariants as lane
 use Rattle.fk_queue.specs.declared.letter.Letter.{Letter}
-use Rattle.fk_queue.specs.Letters.{LaneState, first_bytes, first_number, head_bytes, head_number, rest}
+use Rattle.fk_queue.specs.Letters.{LaneState, first_bytes, first_number, rest}
 use Rattle.fk_tree.specs.declared.request.Request.{Request}
 use Rattle.fk_wire.specs.NoteText.{note_text}
 use Rattle.fk_wire.specs.PushedText.{pushed_text}
 use Rattle.fk_wire.specs.SentText.{sent_text}
 use Rattle.fk_wire.specs.declared.message.Pushed.{Pushed}
-use Rattle.fk_wire.specs.declared.message.Sent.{Sent}
 use Rattle.fk_wire.specs.declared.version.Version.TheVariants as version
 use Rattle.fk_stand.specs.Messages as messages
 use Rattle.fk_stand.specs.Messages.{push_message, push_message_of, sent_from}
 use Rattle.fk_stand.specs.Posts.{lane_after, lane_step, letter_in, removes}
 use Rattle.fk_spec.specs.Plan.{Plan}
-use Rattle.fk_spec.specs.Start.{Origin, count_push, or_else, origin_here, origin_of, pushed_in, pushes_of, request_from, request_of, seen_from, seen_with, sends_of, sent_in}
+use Rattle.fk_spec.specs.Start.{Origin, count_push, or_else, origin_here, origin_of, pushed_in, pushes_of, request_from, seen_from, sends_of, sent_in}
 use Rattle.fk_spec.specs.Lanes.{notes_of}
 use Rattle.fk_spec.specs.Teller as teller
 use Rattle.fk_spec.specs.Teller.{note_in, note_of}
