@@ -1,9 +1,8 @@
 -- A push's message is filled on the records that its function's locks gave; its commit on what the commits left.
 use Rattle.std.specs.Prelude.{◌==◌, if◌then◌else◌, option_map}
-use Rattle.std.proofs.Common.{◌≡◌, ◌≢◌, ℕ, ◌+◌, ◌≤◌, Bool, true, false, List, [], ◌∷◌, refl, sym, ◌∙◌, ap, subst, arith, Option, Some, None}
+use Rattle.std.proofs.Common.{◌≡◌, ℕ, ◌+◌, Bool, true, false, List, [], ◌∷◌, refl, sym, ◌∙◌, ap, subst, arith, Option, Some, None}
 use Rattle.std.proofs.lemmas.Bool.Decides.{nat_tests}
 use Rattle.fk_base.specs.Path.{PathNames}
-use Rattle.fk_tree.specs.Check.{check}
 use Rattle.fk_tree.specs.Sorted.{has_path}
 use Rattle.fk_tree.specs.declared.applied.Applied.{Applied}
 use Rattle.fk_tree.specs.declared.request.Request.{Request}
@@ -29,7 +28,7 @@ use Rattle.fk_spec.specs.Function.{Following, place_of}
 use Rattle.fk_spec.specs.Next.{IsHistory}
 use Rattle.fk_law.specs.Due.{IsDue, IsPushOf}
 use Rattle.fk_law.specs.Losing.{IsLive, IsOwn}
-use Rattle.fk_law.specs.Progress.{Works, progress}
+use Rattle.fk_law.specs.Progress.{progress}
 use Rattle.fk_law.specs.Seeing.{Locks}
 use Rattle.fk_law.proofs.Carrying.{follower_fills_the_same}
 use Rattle.fk_law.proofs.Clients.{follows_from_1}

@@ -1,6 +1,6 @@
 -- The writes of a commit leave the table as the longer history says.
 use Rattle.std.specs.Prelude.{◌==◌, ◌&&◌, not}
-use Rattle.std.proofs.Common.{◌≡◌, ◌≢◌, ℕ, ◌+◌, ◌++◌, Bool, true, false, cond, ◌||◌, List, [], ◌∷◌, refl, sym, ◌∙◌, ap, subst, arith, Option, Some, None, is_some}
+use Rattle.std.proofs.Common.{◌≡◌, ℕ, ◌+◌, ◌++◌, Bool, true, false, cond, ◌||◌, List, [], ◌∷◌, refl, sym, ◌∙◌, ap, subst, arith, Option, Some, None, is_some}
 use Rattle.std.proofs.lemmas.Bool.{false≢true}
 use Rattle.std.proofs.lemmas.Bool.Decides.{nat_tests}
 use Rattle.fk_base.specs.Path.{PathNames, is_root}
@@ -8,8 +8,6 @@ use Rattle.fk_tree.specs.Edit.{closes, edited, effects, view_after}
 use Rattle.fk_tree.specs.Sorted.{has_path, in_path_order}
 use Rattle.fk_tree.specs.Touch.{edit_paths, edited_paths}
 use Rattle.fk_tree.specs.Tree.{map_some}
-use Rattle.fk_tree.specs.declared.applied.Applied.{Applied}
-use Rattle.fk_tree.specs.declared.request.Request.{Request}
 use Rattle.fk_tree.proofs.Order.{by_test}
 use Rattle.fk_print.specs.declared.entry.Entry.{Entry}
 use Rattle.fk_print.specs.declared.event.Event.{Event}
@@ -17,9 +15,7 @@ use Rattle.fk_print.specs.declared.line.Line.{Line}
 use Rattle.fk_print.specs.declared.op.Op.TheVariants as op
 use Rattle.fk_wire.specs.declared.message.Pushed.{Pushed}
 use Rattle.fk_store.specs.Locks.{released}
-use Rattle.fk_store.specs.Meaning.{Meaning}
 use Rattle.fk_store.specs.Writes.{all_written, done_written, records_written, session_after, session_written}
-use Rattle.fk_store.specs.declared.lock.Lock.{Lock}
 use Rattle.fk_store.specs.declared.node_record.NodeRecord.{NodeRecord}
 use Rattle.fk_store.specs.declared.outcome.Outcome.TheVariants as kept
 use Rattle.fk_store.specs.declared.session_record.SessionRecord.{SessionRecord}
@@ -38,10 +34,10 @@ use Rattle.fk_spec.specs.Settling.{Committed, count_settling, done_of, last_for,
 use Rattle.fk_spec.specs.Stored.{committed_of, filled_after, last_edit, last_editor, stored_view, with_filled}
 use Rattle.fk_spec.specs.Next.{IsHistory}
 use Rattle.fk_law.specs.Due.{IsDue, IsPushOf}
-use Rattle.fk_law.specs.Losing.{IsLive, IsOwn}
+use Rattle.fk_law.specs.Losing.{IsOwn}
 use Rattle.fk_law.proofs.Due.{due}
 use Rattle.fk_law.proofs.Editing.{live_push_edits_what_it_locked}
-use Rattle.fk_law.proofs.Leaving.{IsCommit, commit_is}
+use Rattle.fk_law.proofs.Leaving.{commit_is}
 use Rattle.fk_law.proofs.Locking.{lock_names_a_granted_path}
 use Rattle.fk_law.proofs.Settled.{session_of_its_push}
 use Rattle.fk_agree.specs.Pushes.{Tells}

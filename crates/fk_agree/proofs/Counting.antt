@@ -7,10 +7,9 @@ use Rattle.fk_tree.proofs.Order.{by_test}
 use Rattle.fk_print.specs.declared.entry.Entry.{Entry}
 use Rattle.fk_print.specs.declared.op.Op.{Op}
 use Rattle.fk_print.specs.declared.op.Op.TheVariants as op
-use Rattle.fk_queue.specs.declared.lane.Lane.{Lane}
 use Rattle.fk_queue.specs.declared.lane.Lane.TheVariants as lane
 use Rattle.fk_queue.specs.declared.letter.Letter.{Letter}
-use Rattle.fk_queue.specs.Letters.{IsNumbered, LaneState, empty_lane, first_number, head_number, numbers_after, numbers_of, with_letter, without_head}
+use Rattle.fk_queue.specs.Letters.{LaneState, empty_lane, first_number, head_number, numbers_after, numbers_of, with_letter, without_head}
 use Rattle.fk_queue.proofs.Numbering.{numbered_less, numbered_more, numbered_none}
 use Rattle.fk_wire.specs.declared.version.Version.TheVariants as version
 use Rattle.fk_wire.specs.PushedText.{pushed_text}
@@ -20,7 +19,7 @@ use Rattle.fk_stand.specs.Posts.{lane_after, lane_step, letter_in, removes}
 use Rattle.fk_spec.specs.Plan.{Plan, asked}
 use Rattle.fk_spec.specs.Shown.{seen_by}
 use Rattle.fk_spec.specs.Start.{Evicted, Notifies, Sent, count_push, count_sent, pushed_in, pushes_of, probes_session, sends_of, sent_in, task_of, when, written}
-use Rattle.fk_spec.specs.Lanes.{follows_session, head_among, leader_head, leads, note_count, notes_of, notifies, removed_by, removed_in, session_head, watch_head}
+use Rattle.fk_spec.specs.Lanes.{follows_session, head_among, leads, note_count, notes_of, notifies, removed_by, removed_in, session_head}
 use Rattle.fk_spec.specs.Follower.{Follower}
 use Rattle.fk_spec.specs.Function.{Place, Following, Leading, Telling, place_of}
 use Rattle.fk_spec.specs.Next.{IsHistory}

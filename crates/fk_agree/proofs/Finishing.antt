@@ -1,6 +1,6 @@
 -- The table after a push is done or dropped, and after a ping is noted or answered.
 use Rattle.std.specs.Prelude.{◌==◌}
-use Rattle.std.proofs.Common.{◌≡◌, ◌≢◌, ℕ, ◌+◌, ◌<◌, ◌++◌, Bool, true, false, cond, List, [], ◌∷◌, max, refl, sym, ◌∙◌, ap, subst, arith, Option, Some, None}
+use Rattle.std.proofs.Common.{◌≡◌, ℕ, ◌<◌, ◌++◌, Bool, true, false, cond, List, [], ◌∷◌, max, refl, sym, ◌∙◌, ap, subst, arith, Some, None}
 use Rattle.std.proofs.lemmas.Bool.{false≢true}
 use Rattle.std.proofs.lemmas.Bool.Decides.{nat_tests}
 use Rattle.fk_tree.specs.Tree.{map_some}
@@ -12,7 +12,6 @@ use Rattle.fk_print.specs.declared.op.Op.{Op}
 use Rattle.fk_print.specs.declared.op.Op.TheVariants as op
 use Rattle.fk_store.specs.Writes.{all_written, session_after, session_written, without, written}
 use Rattle.fk_store.specs.declared.session_record.SessionRecord.{SessionRecord}
-use Rattle.fk_store.specs.declared.write.Write.{Write}
 use Rattle.fk_store.specs.declared.write.Write.TheVariants as write
 use Rattle.fk_stand.specs.Tables.{pending_in, pending_of, session_record, table_after}
 use Rattle.fk_spec.specs.Plan.{Plan, is_client}

@@ -1,8 +1,7 @@
 -- The table at its start, where nothing changes it, and after a grant.
-use Rattle.std.specs.Prelude.{◌==◌, ◌&&◌, not}
-use Rattle.std.proofs.Common.{◌≡◌, ◌≢◌, ℕ, ◌+◌, Bool, true, false, cond, ◌||◌, List, [], ◌∷◌, length, refl, sym, ◌∙◌, ap, subst, arith, Option, Some, None, is_some}
+use Rattle.std.specs.Prelude.{not}
+use Rattle.std.proofs.Common.{◌≡◌, ℕ, Bool, true, false, cond, ◌||◌, List, [], ◌∷◌, length, refl, sym, ◌∙◌, ap, subst, Option, Some, None, is_some}
 use Rattle.std.proofs.lemmas.Bool.{false≢true}
-use Rattle.std.proofs.lemmas.Bool.Decides.{nat_tests}
 use Rattle.fk_base.specs.Path.{PathNames, is_root, same_path}
 use Rattle.fk_tree.specs.Edit.{view_after}
 use Rattle.fk_tree.specs.Sorted.{has_path}
@@ -10,14 +9,13 @@ use Rattle.fk_tree.specs.Touch.{edited_paths}
 use Rattle.fk_tree.specs.Tree.{map_some}
 use Rattle.fk_tree.specs.View.{start_view}
 use Rattle.fk_tree.specs.declared.applied.Applied.{Applied}
-use Rattle.fk_tree.proofs.Order.{by_test, same_path_is}
+use Rattle.fk_tree.proofs.Order.{by_test}
 use Rattle.fk_print.specs.declared.entry.Entry.{Entry}
 use Rattle.fk_print.specs.declared.event.Event.{Event}
 use Rattle.fk_print.specs.declared.line.Line.{Line}
 use Rattle.fk_print.specs.declared.op.Op.{Op}
 use Rattle.fk_print.specs.declared.op.Op.TheVariants as op
-use Rattle.fk_store.specs.Locks as store
-use Rattle.fk_store.specs.Meaning.{Meaning, new_table, or_no_record, root_record}
+use Rattle.fk_store.specs.Meaning.{new_table, or_no_record}
 use Rattle.fk_store.specs.Writes.{grant_record, written}
 use Rattle.fk_store.specs.declared.node_record.NodeRecord.{NodeRecord}
 use Rattle.fk_store.specs.declared.write.Write.TheVariants as write
@@ -27,7 +25,7 @@ use Rattle.fk_law_tree.proofs.Members.{flipped}
 use Rattle.fk_stand.specs.Tables.{has_record, lock_from, node_record, session_record, table_after}
 use Rattle.fk_spec.specs.Plan.{Plan, is_client}
 use Rattle.fk_spec.specs.Start.{clock_of}
-use Rattle.fk_spec.specs.Locks.{Grant, grant_in, granted, has_released, last_grant}
+use Rattle.fk_spec.specs.Locks.{Grant, grant_in, has_released, last_grant}
 use Rattle.fk_spec.specs.Settling.{done_of}
 use Rattle.fk_spec.specs.Stored.{committed_in, committed_of, filled_after, last_edit, last_editor, stored_view, with_filled}
 use Rattle.fk_spec.specs.Next.{IsHistory}

@@ -1,13 +1,17 @@
-mod Carried
-mod Committing
-mod Counting
-mod Finishing
-mod Granting
-mod Listing
-mod Locking
+pub mod Carried
+pub mod Committing
+pub mod Counting
+pub mod Finishing
+pub mod Firing
+pub mod Granting
+pub mod Heading
+pub mod Listing
+pub mod Locking
 pub mod Messages
-mod Posting
-mod Putting
-mod Settling
-mod Telling
-mod Writing
+pub mod Posting
+pub mod Putting
+pub mod Serving
+pub mod Settling
+pub mod Telling
+pub mod Watching
+pub mod Writing

@@ -1,6 +1,6 @@
 -- What a follower of a close lists, on the records that its locks gave.
 use Rattle.std.specs.Prelude.{◌&&◌}
-use Rattle.std.proofs.Common.{◌≡◌, ◌≢◌, ℕ, ◌+◌, Bool, true, false, List, [], ◌∷◌, refl, sym, ◌∙◌, ap, subst, Some}
+use Rattle.std.proofs.Common.{◌≡◌, ℕ, Bool, true, false, List, [], ◌∷◌, refl, sym, ◌∙◌, ap, subst}
 use Rattle.std.proofs.lemmas.Bool.{cond_both}
 use Rattle.fk_base.specs.Path.{PathNames, path_cmp}
 use Rattle.fk_tree.specs.Edit.{closes}
@@ -15,13 +15,12 @@ use Rattle.fk_law_tree.specs.Locking.{ListsOwned}
 use Rattle.fk_law_tree.specs.Owners.{is_owned}
 use Rattle.fk_stand.specs.Messages.{gone_of}
 use Rattle.fk_spec.specs.Plan.{Plan}
-use Rattle.fk_spec.specs.Start.{request_of, seen_with}
-use Rattle.fk_spec.specs.Settling.{last_of_session, settled_of}
-use Rattle.fk_spec.specs.Stored.{committed_of, is_owned_by, owned_among, stored_view}
+use Rattle.fk_spec.specs.Start.{seen_with}
+use Rattle.fk_spec.specs.Settling.{last_of_session}
+use Rattle.fk_spec.specs.Stored.{committed_of, owned_among, stored_view}
 use Rattle.fk_spec.specs.Follower.{Follower, next_with, node_in, to_lock, view_of, paths_of}
 use Rattle.fk_spec.specs.Follower as follower
 use Rattle.fk_spec.specs.Function.{Following, place_of}
-use Rattle.fk_spec.specs.Next.{IsHistory}
 use Rattle.fk_law.proofs.Filling.{among_has, among_rises, owned_rise, owner_same}
 use Rattle.fk_law.proofs.Carrying.{owned_is_granted}
 use Rattle.fk_law.proofs.Standing.{OnStanding, standing_step}

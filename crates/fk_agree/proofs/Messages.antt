@@ -1,20 +1,14 @@
 -- Each push has a message, and it never changes.
-use Rattle.std.specs.Prelude.{◌==◌, if◌then◌else◌}
-use Rattle.std.proofs.Common.{◌≡◌, ℕ, ◌+◌, ◌≤◌, Bool, true, false, List, [], ◌∷◌, refl, sym, ◌∙◌, ap, subst, arith, Option, Some, None}
-use Rattle.std.proofs.lemmas.Bool.Decides.{nat_tests}
-use Rattle.fk_tree.proofs.Order.{by_test}
+use Rattle.std.proofs.Common.{◌≡◌, ℕ, List, [], ◌∷◌, refl, sym, ◌∙◌, ap, subst, arith, Option, Some, None}
 use Rattle.fk_tree.specs.declared.request.Request.{Request}
 use Rattle.fk_print.specs.declared.entry.Entry.{Entry}
-use Rattle.fk_print.specs.declared.op.Op.{Op}
 use Rattle.fk_print.specs.declared.op.Op.TheVariants as op
 use Rattle.fk_wire.specs.declared.message.Pushed.{Pushed}
 use Rattle.fk_stand.specs.Messages.{push_message, push_message_of, push_with}
 use Rattle.fk_stand.specs.Messages as messages
 use Rattle.fk_spec.specs.Plan.{Plan}
-use Rattle.fk_spec.specs.Start as start
-use Rattle.fk_spec.specs.Start.{Follows, Push, clock_of, count_push, or_else, push_here, push_of, pushed_in, pushed_of, pushes_of, request_of, task_of}
+use Rattle.fk_spec.specs.Start.{Follows, Push, clock_of, or_else, push_here, push_of, pushed_in, pushed_of, request_of, task_of}
 use Rattle.fk_spec.specs.Follower.{Follower}
-use Rattle.fk_spec.specs.Function.{Following, place_of}
 use Rattle.fk_spec.specs.Next.{IsHistory}
 use Rattle.fk_law.specs.Due.{IsDue, IsPushOf}
 use Rattle.fk_law.proofs.Closing.{follower_same, new_push}
@@ -27,34 +21,10 @@ use Rattle.fk_law.proofs.Settled.{reached}
 use Rattle.fk_law.proofs.Starting.{follower_task}
 use Rattle.fk_agree.specs.Pushes.{MessageNeverChanges, PushHasItsMessage}
 use Rattle.fk_agree.proofs.Carried.{its_message, message_at, no_message}
-
-none_some : (x : Pushed) → None ≡ Some x → ⊥
-none_some x e = grind arith
-
--- It never changes. --------------------------------------------------------------------------------------
-
-bound_step : (p : Plan) (t : ℕ) (h : List Entry) (x : Pushed) (o : Op) → IsDue p h o → (push_message_of p t h ≡ Some x → t ≤ pushes_of h) → or_else (messages.push_here p t h o) (push_message_of p t h) ≡ Some x → t ≤ count_push (pushed_in 0 o) (pushes_of h)
-bound_step p t h x (op.Push n s) d i q = by_number (s == t) refl q
-  where
-    by_number : (b : Bool) → (s == t) ≡ b → or_else (if b then push_message p h (op.Push n s) else None) (push_message_of p t h) ≡ Some x → t ≤ pushes_of h + 1
-    by_number true e q = let a = d.3 in grind (arith, nat_tests)
-    by_number false e q = let a = i q in omega (arith, a)
-bound_step p t h x o d i q = let a = i q in omega (arith, a)
-
-pub message_bound : (p : Plan) (t : ℕ) (h : List Entry) (x : Pushed) → IsHistory p h → push_message_of p t h ≡ Some x → t ≤ pushes_of h
-message_bound p t [] x l q = absurd (none_some x q)
-message_bound p t (e ∷ h) x l q = bound_step p t h x e.op (due p e h l) (λ z. message_bound p t h x l.0 z) q
-
-stays_step : (p : Plan) (t : ℕ) (h : List Entry) (x : Pushed) (o : Op) → IsDue p h o → t ≤ pushes_of h → push_message_of p t h ≡ Some x → or_else (messages.push_here p t h o) (push_message_of p t h) ≡ Some x
-stays_step p t h x (op.Push n s) d b q = by_number (s == t) refl
-  where
-    by_number : (b : Bool) → (s == t) ≡ b → or_else (if b then push_message p h (op.Push n s) else None) (push_message_of p t h) ≡ Some x
-    by_number true e = absurd (let a = d.3 in grind (arith, nat_tests))
-    by_number false e = q
-stays_step p t h x o d b q = q
+use Rattle.fk_agree.proofs.Heading.{message_stays}
 
 pub message_never_changes : MessageNeverChanges
-message_never_changes p t e h x l q = stays_step p t h x e.op (due p e h l) (message_bound p t h x l.0 q) q
+message_never_changes p t e h x l q = message_stays p t e h x l q
 
 -- Each push has one. -------------------------------------------------------------------------------------
 

@@ -1,15 +1,13 @@
 -- The post at its start, where a line leaves it, and after a message or its removal.
-use Rattle.std.proofs.Common.{◌≡◌, ℕ, Bool, true, false, cond, List, [], ◌∷◌, length, refl, sym, ◌∙◌, ap, subst, Option, Some, None}
-use Rattle.std.proofs.lemmas.Bool.{false≢true}
+use Rattle.std.proofs.Common.{◌≡◌, ℕ, Bool, true, false, cond, List, [], ◌∷◌, length, refl, sym, ◌∙◌, ap, None}
 use Rattle.fk_tree.proofs.Order.{by_test}
 use Rattle.fk_print.specs.declared.entry.Entry.{Entry}
-use Rattle.fk_print.specs.declared.op.Op.{Op}
 use Rattle.fk_queue.specs.declared.lane.Lane.{Lane}
 use Rattle.fk_queue.specs.Lanes.{is_lane, same_lane}
 use Rattle.fk_queue.specs.Letters.{LaneState, empty_lane, with_letter, without_head}
-use Rattle.fk_queue.specs.Meaning.{Meaning, new_post, popped, pushed, with_lane}
+use Rattle.fk_queue.specs.Meaning.{with_lane}
 use Rattle.fk_queue.proofs.Standing.{same_lane_is}
-use Rattle.fk_stand.specs.Posts.{lane_after, lane_step, letter_in, post_after, removes}
+use Rattle.fk_stand.specs.Posts.{lane_after, lane_step, post_after, removes}
 use Rattle.fk_spec.specs.Plan.{Plan}
 use Rattle.fk_agree.specs.Letters.{HeadIsPopped, LeavesLane, LetterIsPushed, NewPostStands, PostStays}
 

@@ -1,6 +1,6 @@
 -- The user storage at its start, where nothing changes it, after a put and after a publication.
 use Rattle.std.specs.Prelude.{◌==◌}
-use Rattle.std.proofs.Common.{◌≡◌, ℕ, zero, suc, inl, inr, ◌+◌, ◌≤◌, ◌<◌, Bool, true, false, cond, List, [], ◌∷◌, max, refl, sym, ◌∙◌, ap, subst, arith, Option, Some, None}
+use Rattle.std.proofs.Common.{◌≡◌, ℕ, zero, suc, inl, inr, ◌≤◌, ◌<◌, Bool, true, false, cond, List, [], ◌∷◌, max, refl, sym, ◌∙◌, ap, subst, arith, Some}
 use Rattle.std.proofs.lemmas.Bool.{false≢true}
 use Rattle.std.proofs.lemmas.Bool.Decides.{nat_tests}
 use Rattle.fk_base.specs.Path.{PathNames, is_root, same_path}
@@ -14,8 +14,7 @@ use Rattle.fk_print.specs.declared.event.Event.{Event}
 use Rattle.fk_print.specs.declared.line.Line.{Line}
 use Rattle.fk_print.specs.declared.op.Op.{Op}
 use Rattle.fk_print.specs.declared.op.Op.TheVariants as op
-use Rattle.fk_user.specs.Meaning.{Meaning, new_store, no_record, published, put_record, root_record, with_put}
-use Rattle.fk_user.specs.declared.record.UserRecord.{UserRecord}
+use Rattle.fk_user.specs.Meaning.{new_store, published, put_record, with_put}
 use Rattle.fk_law_tree.proofs.Counting.{only_its_edits}
 use Rattle.fk_law_tree.proofs.Members.{flipped}
 use Rattle.fk_stand.specs.Stores.{store_after}
@@ -23,7 +22,6 @@ use Rattle.fk_spec.specs.Plan.{Plan}
 use Rattle.fk_spec.specs.Settling.{mark_of, swept_in, swept_of}
 use Rattle.fk_spec.specs.Stored as stored
 use Rattle.fk_spec.specs.Stored.{committed_as, committed_in, committed_of, filled_after, record_of, stamp_in, stamp_of, up_to, with_filled}
-use Rattle.fk_spec.specs.Lanes.{leads, removed_by}
 use Rattle.fk_spec.specs.Leader as leader
 use Rattle.fk_spec.specs.Function.{Leading, place_of}
 use Rattle.fk_spec.specs.Watches.{published_epoch}

@@ -1,6 +1,6 @@
 -- The table after a refusal and after a loss.
 use Rattle.std.specs.Prelude.{◌==◌, ◌&&◌, not}
-use Rattle.std.proofs.Common.{◌≡◌, ◌≢◌, ℕ, ◌+◌, ◌++◌, Bool, true, false, cond, ◌||◌, List, [], ◌∷◌, refl, sym, ◌∙◌, ap, subst, arith, Option, Some, None, is_some}
+use Rattle.std.proofs.Common.{◌≡◌, ℕ, ◌+◌, Bool, true, false, cond, ◌||◌, List, [], ◌∷◌, refl, sym, ◌∙◌, ap, subst, arith, Option, Some, None}
 use Rattle.std.proofs.lemmas.Bool.{false≢true}
 use Rattle.std.proofs.lemmas.Bool.Decides.{nat_tests}
 use Rattle.fk_base.specs.Path.{PathNames}
@@ -15,7 +15,7 @@ use Rattle.fk_print.specs.declared.line.Line.{Line}
 use Rattle.fk_print.specs.declared.op.Op.{Op}
 use Rattle.fk_print.specs.declared.op.Op.TheVariants as op
 use Rattle.fk_store.specs.Locks.{released}
-use Rattle.fk_store.specs.Writes.{all_written, done_written, records_written, session_after, session_written}
+use Rattle.fk_store.specs.Writes.{all_written, records_written, session_after, session_written}
 use Rattle.fk_store.specs.declared.node_record.NodeRecord.{NodeRecord}
 use Rattle.fk_store.specs.declared.outcome.Outcome.TheVariants as kept
 use Rattle.fk_store.specs.declared.outcome.Outcome as store
@@ -25,9 +25,9 @@ use Rattle.fk_store.specs.declared.write.Write.TheVariants as write
 use Rattle.fk_settle.specs.Transaction.{refuse_writes, release_writes}
 use Rattle.fk_stand.specs.Tables.{has_record, kept_as, lock_from, node_record, session_record, table_after}
 use Rattle.fk_spec.specs.Plan.{Plan, is_client}
-use Rattle.fk_spec.specs.Start.{Follows, request_of, seen_with, session_followed, task_of}
+use Rattle.fk_spec.specs.Start.{seen_with, session_followed, task_of}
 use Rattle.fk_spec.specs.Locks.{Grant, granted, has_released, last_grant, loss_of}
-use Rattle.fk_spec.specs.Settling.{Outcome, Passed, Refused, Settling, count_settling, done_of, last_of_session, outcome_here, outcome_of, settled_in, settled_of, settling}
+use Rattle.fk_spec.specs.Settling.{Outcome, Passed, Refused, count_settling, done_of, outcome_here, outcome_of, settled_in, settled_of, settling}
 use Rattle.fk_spec.specs.Follower.{Follower, next_with}
 use Rattle.fk_spec.specs.Follower as follower
 use Rattle.fk_spec.specs.Function.{Following, actor, place_of}
@@ -44,7 +44,7 @@ use Rattle.fk_law.proofs.Refusing.{own_each}
 use Rattle.fk_law.proofs.Standing.{OnStanding, standing_step}
 use Rattle.fk_law.proofs.Starting.{follower_task}
 use Rattle.fk_agree.specs.Records.{ExpiredIsGrantedNothing, LossIsWritten, RefusalIsWritten}
-use Rattle.fk_agree.proofs.Writing.{arm_stays, done_append, done_is_written, faults_stay, freed, no_releases_written, nodes_written, records_append, releases_leave_done, releases_leave_sessions, releases_written, same_number, sessions_append, sessions_written}
+use Rattle.fk_agree.proofs.Writing.{arm_stays, done_append, done_is_written, faults_stay, no_releases_written, nodes_written, records_append, releases_leave_done, releases_leave_sessions, releases_written, same_number, sessions_append, sessions_written}
 
 -- A follower that expires its request was granted nothing. ----------------------------------------------
 

@@ -3,7 +3,10 @@ pub use Rattle.fk_stand.specs.Posts
 pub use Rattle.fk_stand.specs.Stores
 pub use Rattle.fk_stand.specs.Tables
 pub mod Commits
+pub mod Heads
 pub mod Letters
 pub mod Pushes
 pub mod Records
+pub mod Services
 pub mod Stored
+pub mod Watched

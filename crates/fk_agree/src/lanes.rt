@@ -1,3 +1,4 @@
+ghost use Rattle.fk_agree.specs.Heads.{LeaderHeadIsItsPush, SessionHeadIsItsRequest, WatchHeadIsItsNote};
 ghost use Rattle.fk_agree.specs.Letters.{HeadIsPopped, HeadsAreTheRules, LanesAreCounted, LetterIsPushed, NewPostStands, PostStays};
 
 /// A law: a new post is what the rules say of no history, and a line that leaves each lane leaves the post.
@@ -18,4 +19,11 @@ pub fn letters_are_pushed_and_popped()
 pub fn heads_are_the_rules()
     ensures counted { LanesAreCounted }
     ensures heads { HeadsAreTheRules }
+{}
+
+/// A law: the head of each lane of functions is the text of the request, the push or the note that has its number.
+pub fn heads_are_their_messages()
+    ensures session { SessionHeadIsItsRequest }
+    ensures leader { LeaderHeadIsItsPush }
+    ensures watch { WatchHeadIsItsNote }
 {}

@@ -4,13 +4,20 @@
 
 mod lanes;
 mod pushes;
+mod services;
 mod storage;
 mod tables;
+mod watches;
 
-pub use lanes::{heads_are_the_rules, letters_are_pushed_and_popped, post_starts_and_stays};
+pub use lanes::{
+    heads_are_the_rules, heads_are_their_messages, letters_are_pushed_and_popped,
+    post_starts_and_stays,
+};
 pub use pushes::{message_tells_its_push, push_has_its_message, push_is_its_commit};
+pub use services::services_start_and_stay;
 pub use storage::{put_is_written, storage_starts_and_stays};
 pub use tables::{
     commit_is_written, finish_is_written, grant_is_written, ping_is_written, refusal_is_written,
     table_starts_and_stays,
 };
+pub use watches::{registration_is_written, sweep_is_written, watches_start_and_stay};

@@ -1,5 +1,6 @@
 -- Functions: their numbers and their tasks.
-use Rattle.std.proofs.Common.{◌≡◌, ◌+◌, ℕ, ◌≤◌, ◌++◌, false, List, [], ◌∷◌, refl, sym, subst, arith, Option, Some, None}
+use Rattle.std.specs.Prelude.{◌==◌}
+use Rattle.std.proofs.Common.{◌≡◌, ◌≢◌, ◌+◌, ℕ, ◌≤◌, ◌++◌, true, false, cond, List, [], ◌∷◌, refl, sym, ◌∙◌, ap, subst, arith, Option, Some, None}
 use Rattle.std.proofs.lemmas.Bool.Decides.{nat_tests}
 use Rattle.fk_print.specs.declared.entry.Entry.{Entry}
 use Rattle.fk_print.specs.declared.op.Op.{Op}
@@ -8,7 +9,7 @@ use Rattle.fk_spec.specs.Start.{Start, Task, Follows, Leads, Notifies, Probes, s
 use Rattle.fk_spec.specs.Follower.{Follower}
 use Rattle.fk_spec.specs.Leader as leader
 use Rattle.fk_spec.specs.Teller.{Note, note_of}
-use Rattle.fk_spec.specs.Function.{Place, Absent, Following, Leading, Telling, Beating, place_of, is_absent, actor, placed, telling, moved}
+use Rattle.fk_spec.specs.Function.{Place, Absent, Following, Leading, Telling, Beating, place_of, is_absent, actor, placed, telling, moved, place_by, started_at}
 use Rattle.fk_spec.specs.Next.{IsHistory}
 use Rattle.fk_law.specs.Due.{IsDue}
 use Rattle.fk_spec.specs.Lanes.{notifies, removed_by, removed_in, notes_of, note_count}
@@ -93,6 +94,35 @@ follower_task p n h f l e = subst (IsFor (task_of n h)) e (place_for p n h l)
 
 pub leader_task : (p : Plan) (n : ℕ) (h : List Entry) (t : ℕ) (s : leader.Stage) → IsHistory p h → place_of p n h ≡ Leading t s → task_of n h ≡ Some (Leads t)
 leader_task p n h t s l e = subst (IsFor (task_of n h)) e (place_for p n h l)
+
+-- moves ----------------------------------------------------------------------------------------------
+
+own_test : (n : ℕ) → (n == n) ≡ true
+own_test n = grind (arith, nat_tests)
+
+start_line : (o : Op) (s : Start) → started_in o ≡ Some s → actor o ≡ None
+start_line o s e = grind arith
+
+-- a start line puts its function where its task begins
+pub start_places_it : (p : Plan) (e : Entry) (h : List Entry) (s : Start) → started_in e.op ≡ Some s → place_of p s.function (e ∷ h) ≡ placed p h s.task
+start_places_it p e h s i =
+    ap (λ a. place_by p s.function h e.op a (place_of p s.function h)) (start_line e.op s i)
+    ∙ (ap (λ o. started_at p s.function h o (place_of p s.function h)) i ∙ ap (λ b. cond b (placed p h s.task) (place_of p s.function h)) (own_test s.function))
+
+-- a function's own operation moves it
+pub own_operation_moves_it : (p : Plan) (n : ℕ) (e : Entry) (h : List Entry) → actor e.op ≡ Some n → place_of p n (e ∷ h) ≡ moved p h e.op (place_of p n h)
+own_operation_moves_it p n e h i = ap (λ a. place_by p n h e.op a (place_of p n h)) i ∙ ap (λ b. cond b (moved p h e.op (place_of p n h)) (place_of p n h)) (own_test n)
+
+start_is_next : (p : Plan) (h : List Entry) (o : Op) (s : Start) → IsDue p h o → started_in o ≡ Some s → s.function ≡ starts_of h + 1
+start_is_next p h o s d e = grind arith
+
+-- another line leaves a function in flight where it stands
+pub others_leave_it : (p : Plan) (n : ℕ) (e : Entry) (h : List Entry) → IsHistory p (e ∷ h) → is_absent (place_of p n h) ≡ false → actor e.op ≢ Some n → place_of p n (e ∷ h) ≡ place_of p n h
+others_leave_it p n e h l a other =
+    place_step p n h e.op (place_of p n h) (λ x. x ≡ place_of p n h)
+    (λ _. refl)
+    (λ s b f. let c = start_is_next p h e.op s (due p e h l) b in let w = place_bound p n h l.0 a in absurd (omega (arith, c, f, w.1)))
+    (λ b. absurd (other b))
 
 -- watch functions ------------------------------------------------------------------------------------
 

@@ -92,13 +92,13 @@ record AreSound (p : Plan) (h : List Entry) : Type 0 where
   pub fired : (id : ℕ) (f : Firing) → firing_of p id h ≡ Some f → FiredAtItsFirst p id h f
 
 -- A registration finds its watch set, or it is a new one.
-record IsNewWatch (p : Plan) (h : List Entry) (w : Watch) (ws : List Watch) : Type 0 where
+pub record IsNewWatch (p : Plan) (h : List Entry) (w : Watch) (ws : List Watch) : Type 0 where
   pub next : w.id ≡ given_of h + 1
   pub alone : set_number w.session w.path w.kind (set_watches p h) ≡ None
   pub absent : has_id w.id (set_watches p h) ≡ false
   pub appended : ws ≡ set_watches p h ++ w ∷ []
 
-set_cases : (p : Plan) (h : List Entry) (c i j : ℕ) → (r : IsRegistration p h c i j) → ((has_id j (set_watches p h) ≡ true) × (set_after p h (op.WatchSet c i j) (set_watches p h) ≡ set_watches p h)) ⊎ IsNewWatch p h r.watch (set_after p h (op.WatchSet c i j) (set_watches p h))
+pub set_cases : (p : Plan) (h : List Entry) (c i j : ℕ) → (r : IsRegistration p h c i j) → ((has_id j (set_watches p h) ≡ true) × (set_after p h (op.WatchSet c i j) (set_watches p h) ≡ set_watches p h)) ⊎ IsNewWatch p h r.watch (set_after p h (op.WatchSet c i j) (set_watches p h))
 set_cases p h c i j r = by_had (has_id r.watch.id (set_watches p h)) refl
   where
     asked_is : set_after p h (op.WatchSet c i j) (set_watches p h) ≡ (if has_id r.watch.id (set_watches p h) then set_watches p h else set_watches p h ++ r.watch ∷ [])
@@ -152,7 +152,7 @@ swept_status b None k f g n i a c = let r = a refl in rw (r.0, r.1, or_none n) i
 swept_status b (Some w) k f g n i a c = elim (c w refl) [ inl x ↦ rw (x.0, x.1, or_none n) i | inr y ↦ rw (y.0, y.2, or_none n) (fires_status b w f n y.1 i) ]
 
 -- what a sweep makes of a number's watch
-sweep_leaves_none : (id t : ℕ) (ts : List Touch) (ws : List Watch) → watch_with id ws ≡ None → (watch_with id (not_fired ts ws) ≡ None) × (firing_with id (firings t ts ws) ≡ None)
+pub sweep_leaves_none : (id t : ℕ) (ts : List Touch) (ws : List Watch) → watch_with id ws ≡ None → (watch_with id (not_fired ts ws) ≡ None) × (firing_with id (firings t ts ws) ≡ None)
 sweep_leaves_none id t ts ws e = (by_left (watch_with id (not_fired ts ws)) refl, fires_none id t ts ws absent)
   where
     absent : has_id id ws ≡ false
@@ -162,7 +162,7 @@ sweep_leaves_none id t ts ws e = (by_left (watch_with id (not_fired ts ws)) refl
     by_left None f = f
     by_left (Some w) f = absurd (false≢true (sym absent ∙ not_fired_has id ts ws (has_is id (not_fired ts ws) ∙ ap is_some f)))
 
-sweep_of_set : (id t : ℕ) (ts : List Touch) (ws : List Watch) (w : Watch) → AreUnique ws → watch_with id ws ≡ Some w → ((watch_with id (not_fired ts ws) ≡ Some w) × (firing_with id (firings t ts ws) ≡ None)) ⊎ ((watch_with id (not_fired ts ws) ≡ None) × (x : Firing) × (firing_with id (firings t ts ws) ≡ Some x))
+pub sweep_of_set : (id t : ℕ) (ts : List Touch) (ws : List Watch) (w : Watch) → AreUnique ws → watch_with id ws ≡ Some w → ((watch_with id (not_fired ts ws) ≡ Some w) × (firing_with id (firings t ts ws) ≡ None)) ⊎ ((watch_with id (not_fired ts ws) ≡ None) × (x : Firing) × (firing_with id (firings t ts ws) ≡ Some x))
 sweep_of_set id t ts ws w u e = by_taken (first_taken w.path w.kind ts) refl
   where
     taken_not : (c : Change) → first_taken w.path w.kind ts ≡ Some c → (o : Option Watch) → watch_with id (not_fired ts ws) ≡ o → watch_with id (not_fired ts ws) ≡ None
