@@ -171,7 +171,7 @@ not_fired_apart ts [] u = tt
 not_fired_apart ts (w ∷ ws) u = kept_apart (first_taken w.path w.kind ts) w (not_fired ts ws) (not_fired_number w.session w.path w.kind ts ws u.0) (not_fired_apart ts ws u.1)
 
 -- whether a watch is of this session, path and kind
-abbrev is_of : ℕ → PathNames → Kind → Watch → Bool
+abbrev pub is_of : ℕ → PathNames → Kind → Watch → Bool
 is_of c path k w = (w.session == c) && same_path w.path path && same_kind w.kind k
 
 append_number : (c : ℕ) (path : PathNames) (k : Kind) (ws : List Watch) (w : Watch) → set_number c path k ws ≡ None → is_of c path k w ≡ false → set_number c path k (ws ++ w ∷ []) ≡ None
