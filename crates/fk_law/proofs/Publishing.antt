@@ -109,7 +109,7 @@ published_tree_is_shown p n h l v = ap look (published_is p n h l v) ∙ ((numbe
 
 -- What a commit is of. --------------------------------------------------------------------------------
 
-record IsOfPush (p : Plan) (t : ℕ) (h : List Entry) (a : Applied) : Type 0 where
+pub record IsOfPush (p : Plan) (t : ℕ) (h : List Entry) (a : Applied) : Type 0 where
   pub function : ℕ
   pub is_of : IsPushOf t function a.session a.k h
   pub pushed : pushed_of p t h ≡ Some (record { session = a.session; k = a.k; moment = a.moment; request = a.request })
@@ -128,7 +128,7 @@ of_push_step p t h a (op.CommitOk u s) l d i q = by_push (nat_eq s t) refl
         subst (λ v. IsOfPush p v h a) g (subst (IsOfPush p s h) f (record { function = x.function; is_of = x.is_of; pushed = r.2 }))
 of_push_step p t h a o l d i q = i q
 
-of_push : (p : Plan) (t : ℕ) (h : List Entry) (a : Applied) → IsHistory p h → committed_as p t h ≡ Some a → IsOfPush p t h a
+pub of_push : (p : Plan) (t : ℕ) (h : List Entry) (a : Applied) → IsHistory p h → committed_as p t h ≡ Some a → IsOfPush p t h a
 of_push p t [] a l q = absurd (grind arith)
 of_push p t (e ∷ h) a l q =
     let x = of_push_step p t h a e.op l.0 (due p e h l) (λ v. of_push p t h a l.0 v) q in
