@@ -1,3 +1,4 @@
+pub mod Acting
 pub mod Inbox
 pub mod Numbers
 pub mod Reading
