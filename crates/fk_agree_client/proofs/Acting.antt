@@ -96,7 +96,7 @@ kept_known p k (Passed None) h ms (Some t) i = absurd (none_some t i)
 kept_known p k (Passed (Some loss)) h ms (Some t) i = sym (ap (λ z. told_known (outcome_told (Some z))) (some_same (lost_tell k loss) t i))
 
 -- the rules' client comes to the same by what its message tells and by what the rules read there
-told_fits : (p : Plan) (c : ℕ) (h : List Entry) (told : Option Tell) (o : Op) (y : Client Sent) → IsDue p h o → client_in o ≡ Some c → FirstTells p h (inbox_of p c h) told
+pub told_fits : (p : Plan) (c : ℕ) (h : List Entry) (told : Option Tell) (o : Op) (y : Client Sent) → IsDue p h o → client_in o ≡ Some c → FirstTells p h (inbox_of p c h) told
     → acted by_result (told_sight p c h told) (told_known (outcome_told told)) o y ≡ acted_by (sight_of p c h) o y
 told_fits p c h told (op.TakeDone d k tx) y i e r =
     let s = some_same d c e in

@@ -3,6 +3,8 @@
 //! body.
 #![tactic(auto)]
 
+mod clients;
 mod inboxes;
 
+pub use clients::{client_goes_on, client_makes_its_op, clients_stand};
 pub use inboxes::inbox_says_its_messages;

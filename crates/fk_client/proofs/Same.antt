@@ -104,7 +104,7 @@ same_looked : (asks : List Ask) (r : Option Reading) (x : Client Unanswered) →
 same_looked asks None x = same_for asks x.sent x
 same_looked asks (Some r) x = same_at (registers (next_asked asks x) r.node) r x
 
-same_acted : (s : Sight) (told : Option Outcome) (o : Op) (x : Client Unanswered) → client_known (acted by_outcome s told o x) ≡ acted by_result s (told_known told) o (client_known x)
+pub same_acted : (s : Sight) (told : Option Outcome) (o : Op) (x : Client Unanswered) → client_known (acted by_outcome s told o x) ≡ acted by_result s (told_known told) o (client_known x)
 same_acted s told (op.TakeDone c k tx) x = same_settle k told x
 same_acted s told (op.TakeRefused c k) x = same_settle k told x
 same_acted s told (op.TakeLost c k) x = same_settle k told x
