@@ -2,6 +2,7 @@ pub mod Acting
 pub mod Arguments
 pub mod Keeping
 pub mod Messages
+pub mod Operating
 pub mod Printing
 pub mod Pushed
 pub mod Seen

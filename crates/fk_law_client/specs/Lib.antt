@@ -1,4 +1,5 @@
 pub mod Inboxes
+pub mod Operations
 pub mod Ordering
 pub mod Refused
 pub mod Shown
