@@ -1,6 +1,7 @@
 pub mod Acting
 pub mod Arguments
 pub mod Keeping
+pub mod Kept
 pub mod Lines
 pub mod Messages
 pub mod Operating

@@ -1,4 +1,5 @@
 pub mod Inboxes
+pub mod Kept
 pub mod Lines
 pub mod Operations
 pub mod Ordering
