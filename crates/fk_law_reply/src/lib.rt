@@ -1,0 +1,7 @@
+//! Laws of what clients are answered, in every history that the rules allow. Each law is the clause of a
+//! function without a body.
+#![tactic(auto)]
+
+mod sent_numbers;
+
+pub use sent_numbers::{commands_are_begun_in_order, kept_commands_are_entered};
