@@ -99,8 +99,8 @@ sends_so p c i h b =
     let z = begins_so p c i h b.begins in
     (z.0, z.1, z.2, subst (λ a. is_unfit a ≡ false) (sym b.begins.is_asked) (subst (λ w. is_unfit (Some (record b.begins.ask { want = w })) ≡ false) (sym b.writes) refl))
 
-reads_so : (p : Plan) (c i : ℕ) (h : List Entry) → BeginsRead p c i h → BeginsSo p c (client_of p c h) i × ReadsTree (asked p c i)
-reads_so p c i h b = (begins_so p c i h b.begins, subst ReadsTree (sym b.begins.is_asked) (subst IsRead (sym b.reads) tt))
+pub begins_to_read : (p : Plan) (c i : ℕ) (h : List Entry) → BeginsRead p c i h → BeginsSo p c (client_of p c h) i × ReadsTree (asked p c i)
+begins_to_read p c i h b = (begins_so p c i h b.begins, subst ReadsTree (sym b.begins.is_asked) (subst IsRead (sym b.reads) tt))
 
 waits_so : (p : Plan) (c i : ℕ) (h : List Entry) → WaitsToRegister p c i h → (i ≡ (client_of p c h).begun + 1) × IsLooked (client_of p c h).reading
 waits_so p c i h w = (w.next, subst IsLooked (sym w.made) w.looked)
@@ -113,8 +113,8 @@ acts_as p c h (op.WatchFault d i) a = waits_so p c i h a
 acts_as p c h (op.Send d i k) a = sends_so p c i h a.0
 acts_as p c h (op.SendFault d i) a = sends_so p c i h a
 acts_as p c h (op.Local d i) a = begins_so p c i h a.0
-acts_as p c h (op.Read d i s) a = reads_so p c i h a.0
-acts_as p c h (op.ReadFault d i) a = reads_so p c i h a
+acts_as p c h (op.Read d i s) a = begins_to_read p c i h a.0
+acts_as p c h (op.ReadFault d i) a = begins_to_read p c i h a
 acts_as p c h o a = tt
 
 -- an operation of client c says this of it

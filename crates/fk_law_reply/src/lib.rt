@@ -2,6 +2,8 @@
 //! function without a body.
 #![tactic(auto)]
 
+mod made_reads;
 mod sent_numbers;
 
+pub use made_reads::reads_show_the_tree;
 pub use sent_numbers::{commands_are_begun_in_order, kept_commands_are_entered};
