@@ -118,7 +118,7 @@ refuses_next p c j e h l q = (subst (OperationSays p c h) q (client_operations_s
 seen_stays : (p : Plan) (c i : ℕ) (e : Entry) (h : List Entry) → IsHistory p (e ∷ h) → i ≤ (client_of p c h).begun → seen_at c i (e ∷ h) ≡ seen_at c i h
 seen_stays p c i e h l b = ap (λ z. or_else z (seen_at c i h)) (seen_other c i h e.op (λ j k q f. let n = sends_next p c j k e h l q in omega (arith, b, n, f)) (λ j q f. let n = refuses_next p c j e h l q in omega (arith, b, n, f)))
 
-cause_stays : (p : Plan) (c i : ℕ) (e : Entry) (h : List Entry) (a : Ask) (r : Result) → IsHistory p (e ∷ h) → i ≤ (client_of p c h).begun → HasOwnCause c i h a r → HasOwnCause c i (e ∷ h) a r
+pub cause_stays : (p : Plan) (c i : ℕ) (e : Entry) (h : List Entry) (a : Ask) (r : Result) → IsHistory p (e ∷ h) → i ≤ (client_of p c h).begun → HasOwnCause c i h a r → HasOwnCause c i (e ∷ h) a r
 cause_stays p c i e h a (Plain code.BadArguments) l b x = x
 cause_stays p c i e h a (Plain code.ConnectionLoss) l b x = or_later (fails_send c i e.op) (has_failed_send c i h) x
 cause_stays p c i e h a (Plain cd) l b x = absurd x
