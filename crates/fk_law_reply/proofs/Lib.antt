@@ -1,3 +1,4 @@
 pub mod Ledger
 pub mod Finding
 pub mod Explaining
+pub mod Fitting

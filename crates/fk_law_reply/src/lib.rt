@@ -7,5 +7,5 @@ mod replies;
 mod sent_numbers;
 
 pub use made_reads::reads_show_the_tree;
-pub use replies::replies_are_explained;
+pub use replies::{replies_are_explained, replies_fit};
 pub use sent_numbers::{commands_are_begun_in_order, kept_commands_are_entered};
