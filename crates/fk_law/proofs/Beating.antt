@@ -1,6 +1,6 @@
 -- The heartbeats of a history are of clients.
 use Rattle.std.specs.Prelude.{◌==◌, ◌≡◌}
-use Rattle.std.proofs.Common.{ℕ, ◌+◌, ◌++◌, Bool, true, false, List, [], ◌∷◌, sym, ap, subst, arith, Option, Some, None}
+use Rattle.std.proofs.Common.{ℕ, ◌+◌, Bool, true, false, List, [], ◌∷◌, sym, ap, subst, arith, Option, Some, None}
 use Rattle.std.proofs.lemmas.Bool.{cond_both}
 use Rattle.std.proofs.lemmas.Bool.Decides.{nat_tests}
 use Rattle.fk_tree.specs.Sorted.{in_path_order}
@@ -10,7 +10,7 @@ use Rattle.fk_print.specs.declared.event.Event.TheVariants as event
 use Rattle.fk_print.specs.declared.op.Op.{Op}
 use Rattle.fk_print.specs.declared.op.Op.TheVariants as op
 use Rattle.fk_spec.specs.Plan.{Plan, Ask, Want, Unfit, Writes, Reads, asked, asks_in, is_client}
-use Rattle.fk_spec.specs.Start.{Task, Follows, Leads, Notifies, Probes, Push, starts_of, task_of, push_of, or_else}
+use Rattle.fk_spec.specs.Start.{Task, Follows, Leads, Notifies, Probes, Push, starts_of, task_of, push_of}
 use Rattle.fk_spec.specs.Locks as locks
 use Rattle.fk_spec.specs.Locks.{granted, first_passed}
 use Rattle.fk_spec.specs.Settling.{settled_of}
@@ -23,11 +23,11 @@ use Rattle.fk_spec.specs.Teller.{teller_op}
 use Rattle.fk_spec.specs.Teller as teller
 use Rattle.fk_spec.specs.Heartbeat.{beat_op}
 use Rattle.fk_spec.specs.Heartbeat as heartbeat
-use Rattle.fk_spec.specs.Function.{Place, Absent, Following, Leading, Telling, Beating, place_of, function_op, fault_op, in_flight}
+use Rattle.fk_spec.specs.Function.{Place, Absent, Following, Leading, Telling, Beating, place_of, function_op, fault_op}
 use Rattle.fk_spec.specs.Sight.{sight_of, Sight}
 use Rattle.fk_spec.specs.Client.{by_result, target_of, pong_or, take_op, take_or, look_or, register_asked, watch_or, may_begin, begin_op, begin_asked, failed_op, client_of, client_op, Sent, Reading, Client, Target}
-use Rattle.fk_spec.specs.Next.{IsHistory, names_client, next_op, follow_op, lead_op, tell_op, crash_op}
-use Rattle.fk_law.specs.Sessions.{BeatsAClient, BeatsClients, HeartbeatsAreOfClients}
+use Rattle.fk_spec.specs.Next.{names_client, next_op, follow_op, lead_op, tell_op, crash_op}
+use Rattle.fk_law.specs.Sessions.{BeatsAClient, HeartbeatsAreOfClients}
 
 -- Operations that start no heartbeat. -----------------------------------------------------------------
 

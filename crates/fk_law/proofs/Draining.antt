@@ -1,13 +1,12 @@
 -- The events of a drain name clients.
-use Rattle.std.specs.Prelude.{nat_lt, nat_le}
-use Rattle.std.proofs.Common.{◌≡◌, ℕ, suc, ◌+◌, ◌≤◌, ◌++◌, Bool, true, false, List, [], ◌∷◌, length, refl, sym, ap, subst, arith, Option, Some, None}
+use Rattle.std.proofs.Common.{◌≡◌, ℕ, suc, ◌+◌, ◌≤◌, ◌++◌, true, List, [], ◌∷◌, length, refl, subst, arith, Option, Some, None}
 use Rattle.std.proofs.lemmas.Bool.{cond_both}
 use Rattle.std.proofs.lemmas.Bool.Decides.{nat_tests}
 use Rattle.fk_print.specs.declared.entry.Entry.{Entry}
 use Rattle.fk_print.specs.declared.event.Event.{Event}
 use Rattle.fk_print.specs.declared.event.Event.TheVariants as event
 use Rattle.fk_spec.specs.Plan.{Plan, Ask, is_client}
-use Rattle.fk_spec.specs.Start.{clock_of, or_else}
+use Rattle.fk_spec.specs.Start.{or_else}
 use Rattle.fk_spec.specs.Lanes.{session_head, leader_head, watch_head}
 use Rattle.fk_spec.specs.Function.{in_flight}
 use Rattle.fk_spec.specs.Client.{client_op}

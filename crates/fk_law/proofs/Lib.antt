@@ -39,3 +39,4 @@ pub mod Settled
 pub mod Stamping
 pub mod Standing
 pub mod Starting
+pub mod TxLines

@@ -166,7 +166,7 @@ greatest_step : (m : ℕ) (done : List Applied) (o : Option Applied) → applied
 greatest_step m done None e i = omega (arith, i)
 greatest_step m done (Some a) e i = let t = tx_is (suc m) done a e in omega (arith, t, i)
 
-greatest_at_most : (m : ℕ) (done : List Applied) → greatest_tx (all_printed (numbered m done)) ≤ m
+pub greatest_at_most : (m : ℕ) (done : List Applied) → greatest_tx (all_printed (numbered m done)) ≤ m
 greatest_at_most zero done = omega arith
 greatest_at_most (suc m) done = greatest_step m done (applied_as (suc m) done) refl (greatest_at_most m done)
 
@@ -185,11 +185,24 @@ below_request c k (suc m) done b f = least_step c k m done (applied_as (suc m) d
 less_test : (a b : ℕ) → a < b → nat_lt a b ≡ true
 less_test a b e = grind (arith, nat_tests)
 
+tree_before : (p : Plan) (m : ℕ) (h : List Entry) (a : Applied) → IsHistory p h → suc m ≤ mark_of h → committed_as p (suc m) h ≡ Some a → published_tree h (a.tx - 1) ≡ tree_after (numbered m (committed_of p h))
+tree_before p m h a l v q = let n = tx_is (suc m) (committed_of p h) a q in ap (published_tree h) (omega (arith, n)) ∙ published_is p m h l (omega (arith, v))
+
+filled_before : (p : Plan) (m : ℕ) (h : List Entry) (a : Applied) → IsHistory p h → committed_as p (suc m) h ≡ Some a → IsFilled (tree_after (numbered m (committed_of p h))) a
+filled_before p m h a l q = is_filled (tree_after (numbered m (committed_of p h))) a (subst (λ z. Fits z a) (sym ((numbered_tree_is_shown p m h l).shown ∙ numbered_leave_the_same p m h l)) (commit_fits_at_its_number p m (suc m) h a l q (omega arith)))
+
+-- a push is published as it was committed
+pub published_at : (p : Plan) (m : ℕ) (h : List Entry) (a : Applied) → IsHistory p h → suc m ≤ mark_of h → committed_as p (suc m) h ≡ Some a → published_as p a.tx h ≡ Some a
+published_at p m h a l v q =
+    ap (λ t. filled_on t a.tx (pushed_of p a.tx h)) (tree_before p m h a l v q)
+    ∙ (ap (filled_on (tree_after (numbered m (committed_of p h))) a.tx) (ap (λ t. pushed_of p t h) (tx_is (suc m) (committed_of p h) a q) ∙ (of_push p (suc m) h a l q).pushed)
+    ∙ ap Some (sym (filled_before p m h a l q).filled))
+
 line_fits : (p : Plan) (m : ℕ) (h : List Entry) (a : Applied) → IsHistory p h → suc m ≤ mark_of h → committed_as p (suc m) h ≡ Some a → TxFits p h (printed_of a) (all_printed (numbered m (committed_of p h)))
 line_fits p m h a l v q = record {
   rises = less_test (greatest_tx (all_printed (numbered m done))) a.tx (let g = greatest_at_most m done in omega (arith, g, number));
   in_order = less_test (greatest_request a.session (all_printed (numbered m done))) a.k (below_request a.session a.k m done (reached p x.function a.session a.k h l x.is_of.task).0 earlier);
-  applied = subst (ShowsApplied h (printed_of a)) (sym published) (refl, ap (λ t. check (look t) a.session a.request) tree ∙ filled.passes);
+  applied = subst (ShowsApplied h (printed_of a)) (sym (published_at p m h a l v q)) (refl, ap (λ t. check (look t) a.session a.request) (tree_before p m h a l v q) ∙ (filled_before p m h a l q).passes);
 }
   where
     done : List Applied
@@ -205,18 +218,6 @@ line_fits p m h a l v q = record {
     earlier n c w e s =
         let y = of_push p n h c l e in
         requests_rise p (suc m) x.function n y.function a.session a.k c.k h l x.is_of (subst (λ z. IsPushOf n y.function z c.k h) s y.is_of) (was_committed p (suc m) h a q) (was_committed p n h c e) (omega (arith, w))
-
-    tree : published_tree h (a.tx - 1) ≡ tree_after (numbered m done)
-    tree = ap (published_tree h) (omega (arith, number)) ∙ published_is p m h l (omega (arith, v))
-
-    filled : IsFilled (tree_after (numbered m done)) a
-    filled = is_filled (tree_after (numbered m done)) a (subst (λ z. Fits z a) (sym ((numbered_tree_is_shown p m h l).shown ∙ numbered_leave_the_same p m h l)) (commit_fits_at_its_number p m (suc m) h a l q (omega arith)))
-
-    published : published_as p a.tx h ≡ Some a
-    published =
-        ap (λ t. filled_on t a.tx (pushed_of p a.tx h)) tree
-        ∙ (ap (filled_on (tree_after (numbered m done)) a.tx) (ap (λ t. pushed_of p t h) number ∙ x.pushed)
-        ∙ ap Some (sym filled.filled))
 
 lines_step : (p : Plan) (m : ℕ) (h : List Entry) (o : Option Applied) → IsHistory p h → suc m ≤ mark_of h → committed_as p (suc m) h ≡ o → TxsFit p h (all_printed (numbered m (committed_of p h))) → TxsFit p h (all_printed (with_some o (numbered m (committed_of p h))))
 lines_step p m h None l v q i = i

@@ -20,3 +20,4 @@ pub mod Seeing
 pub mod Sessions
 pub mod Settled
 pub mod Stamping
+pub mod TxLines

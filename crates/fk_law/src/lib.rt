@@ -23,68 +23,110 @@ mod sent_requests;
 mod sessions;
 mod settlings;
 mod shown_losses;
+mod tx_lines;
 mod user_records;
 
-pub use closed_sessions::{at_work_is_open, closed_has_no_live_push, no_commit_after_close};
-pub use commit_numbers::{
-    close_lists_all, closed_session_owns_nothing, commit_fits_at_its_number, commits_rise,
-};
-pub use commit_order::{
-    commits_in_order_on_a_path, commits_rise_in_a_session, commits_rise_on_a_path,
-    committer_holds_its_paths, one_of_two_commits,
-};
+pub use closed_sessions::at_work_is_open;
+pub use closed_sessions::closed_has_no_live_push;
+pub use closed_sessions::no_commit_after_close;
+pub use commit_numbers::close_lists_all;
+pub use commit_numbers::closed_session_owns_nothing;
+pub use commit_numbers::commit_fits_at_its_number;
+pub use commit_numbers::commits_rise;
+pub use commit_order::commits_in_order_on_a_path;
+pub use commit_order::commits_rise_in_a_session;
+pub use commit_order::commits_rise_on_a_path;
+pub use commit_order::committer_holds_its_paths;
+pub use commit_order::one_of_two_commits;
 pub use due_entries::every_entry_is_due;
-pub use fitting_pushes::{
-    commits_fit, committed_as_pushed, follower_fills_the_same, live_push_fits,
-    only_the_holder_edits, push_locks_what_it_edits,
-};
-pub use follower_views::{
-    follower_decides_from_its_views, owned_list_is_complete, records_are_of_its_grants,
-    view_is_current_while_the_lock_is_own,
-};
-pub use functions::{
-    function_does_its_task, in_flight_are_numbered, started_are_numbered, task_never_changes,
-    teller_works_at_or_below_the_head,
-};
-pub use last_commits::{
-    at_work_knows_the_last, commit_is_beyond_the_last, last_is_committed, last_is_the_greatest,
-};
-pub use leader_lane::{
-    commits_are_beyond_the_sweep, done_is_removed_or_one_more, done_were_pushed,
-    leader_stands_where_it_may, leader_works_at_or_below_the_head, mark_behind_sweep,
-    published_are_committed, published_are_swept, published_up_to_the_mark,
-    pushes_below_the_head_are_finished, swept_are_committed, swept_up_to_the_sweep,
-};
-pub use live_pushes::{committer_is_live, live_commits, push_is_live_dead_or_committed};
-pub use locks::{
-    at_work_is_unreleased, lock_names_a_granted_path, locks_are_followers, loss_is_after_expiry,
-    overtaken_only_after_expiry, push_releases_at_its_commit, released_is_settled,
-};
-pub use longer_histories::{committed_stays, numbers_never_fall, published_stays};
-pub use lost_locks::{
-    dead_push_never_commits, dead_stays_dead, lock_miss_is_dead, overtaken_push_never_commits,
-    settled_miss_is_over,
-};
+pub use fitting_pushes::commits_fit;
+pub use fitting_pushes::committed_as_pushed;
+pub use fitting_pushes::follower_fills_the_same;
+pub use fitting_pushes::live_push_fits;
+pub use fitting_pushes::only_the_holder_edits;
+pub use fitting_pushes::push_locks_what_it_edits;
+pub use follower_views::follower_decides_from_its_views;
+pub use follower_views::owned_list_is_complete;
+pub use follower_views::records_are_of_its_grants;
+pub use follower_views::view_is_current_while_the_lock_is_own;
+pub use functions::function_does_its_task;
+pub use functions::in_flight_are_numbered;
+pub use functions::started_are_numbered;
+pub use functions::task_never_changes;
+pub use functions::teller_works_at_or_below_the_head;
+pub use last_commits::at_work_knows_the_last;
+pub use last_commits::commit_is_beyond_the_last;
+pub use last_commits::last_is_committed;
+pub use last_commits::last_is_the_greatest;
+pub use leader_lane::commits_are_beyond_the_sweep;
+pub use leader_lane::done_is_removed_or_one_more;
+pub use leader_lane::done_were_pushed;
+pub use leader_lane::leader_stands_where_it_may;
+pub use leader_lane::leader_works_at_or_below_the_head;
+pub use leader_lane::mark_behind_sweep;
+pub use leader_lane::published_are_committed;
+pub use leader_lane::published_are_swept;
+pub use leader_lane::published_up_to_the_mark;
+pub use leader_lane::pushes_below_the_head_are_finished;
+pub use leader_lane::swept_are_committed;
+pub use leader_lane::swept_up_to_the_sweep;
+pub use live_pushes::committer_is_live;
+pub use live_pushes::live_commits;
+pub use live_pushes::push_is_live_dead_or_committed;
+pub use locks::at_work_is_unreleased;
+pub use locks::lock_names_a_granted_path;
+pub use locks::locks_are_followers;
+pub use locks::loss_is_after_expiry;
+pub use locks::overtaken_only_after_expiry;
+pub use locks::push_releases_at_its_commit;
+pub use locks::released_is_settled;
+pub use longer_histories::committed_stays;
+pub use longer_histories::numbers_never_fall;
+pub use longer_histories::published_stays;
+pub use lost_locks::dead_push_never_commits;
+pub use lost_locks::dead_stays_dead;
+pub use lost_locks::lock_miss_is_dead;
+pub use lost_locks::overtaken_push_never_commits;
+pub use lost_locks::settled_miss_is_over;
 pub use numbered_commits::numbered_commits_fit;
-pub use publications::{each_request_once, txs_are_the_commits};
-pub use pushes::{
-    committer_commits_a_push, each_number_is_a_push, one_push_for_each_function,
-    push_is_of_a_request, push_never_changes, pushes_are_numbered,
-};
+pub use publications::each_request_once;
+pub use publications::txs_are_the_commits;
+pub use pushes::committer_commits_a_push;
+pub use pushes::each_number_is_a_push;
+pub use pushes::one_push_for_each_function;
+pub use pushes::push_is_of_a_request;
+pub use pushes::push_never_changes;
+pub use pushes::pushes_are_numbered;
 pub use refusals::refusal_holds_at_its_number;
-pub use request_outcomes::{
-    applied_is_committed, one_commit_for_each_request, outcome_is_of_a_settled,
-    outcome_never_changes, settled_have_an_outcome,
-};
-pub use sent_requests::{
-    committed_is_filled, committed_never_changes, filled_is_committed, push_asks_for_its_request,
-    pushed_never_changes, request_never_changes, request_was_sent, sent_has_a_request,
-};
+pub use request_outcomes::applied_is_committed;
+pub use request_outcomes::one_commit_for_each_request;
+pub use request_outcomes::outcome_is_of_a_settled;
+pub use request_outcomes::outcome_never_changes;
+pub use request_outcomes::settled_have_an_outcome;
+pub use sent_requests::committed_is_filled;
+pub use sent_requests::committed_never_changes;
+pub use sent_requests::filled_is_committed;
+pub use sent_requests::push_asks_for_its_request;
+pub use sent_requests::pushed_never_changes;
+pub use sent_requests::request_never_changes;
+pub use sent_requests::request_was_sent;
+pub use sent_requests::sent_has_a_request;
 pub use sessions::follows_a_client;
-pub use settlings::{
-    answered_is_settled, at_work_is_unpushed, commits_once, committed_is_settled,
-    message_is_reached, settled_is_removed_or_one_more, settled_once, settled_were_sent,
-    settles_the_next,
-};
-pub use shown_losses::{loser_has_found, loss_has_its_lines, lost_has_a_loss, lost_has_its_lines};
+pub use settlings::answered_is_settled;
+pub use settlings::at_work_is_unpushed;
+pub use settlings::commits_once;
+pub use settlings::committed_is_settled;
+pub use settlings::message_is_reached;
+pub use settlings::settled_is_removed_or_one_more;
+pub use settlings::settled_once;
+pub use settlings::settled_were_sent;
+pub use settlings::settles_the_next;
+pub use shown_losses::loser_has_found;
+pub use shown_losses::loss_has_its_lines;
+pub use shown_losses::lost_has_a_loss;
+pub use shown_losses::lost_has_its_lines;
+pub use tx_lines::committed_requests_have_their_lines;
+pub use tx_lines::greatest_tx_is_the_mark;
+pub use tx_lines::published_as_committed;
+pub use tx_lines::stamps_are_swept;
 pub use user_records::record_shows_the_tree;

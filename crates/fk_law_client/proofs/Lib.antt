@@ -1,7 +1,10 @@
 pub mod Acting
 pub mod Arguments
 pub mod Keeping
+pub mod Kept
+pub mod Lines
 pub mod Messages
+pub mod Operating
 pub mod Printing
 pub mod Pushed
 pub mod Seen

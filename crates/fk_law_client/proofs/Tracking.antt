@@ -132,7 +132,7 @@ answer p c h ss begun top e x = subst (λ z. KeepsTrack p c h z (begun + 1) top)
 
 -- One operation of a client. ---------------------------------------------------------------------------
 
-abbrev TracksAt : Plan → ℕ → List Entry → ℕ → Client Sent → Type 0
+abbrev pub TracksAt : Plan → ℕ → List Entry → ℕ → Client Sent → Type 0
 TracksAt p c h top x = KeepsTrack p c h x.sent x.begun top
 
 looked_for_tracked : (p : Plan) (c : ℕ) (h : List Entry) (top : ℕ) (ss : List Sent) (x : Client Sent) → x.sent ≡ ss → TracksAt p c h top x → TracksAt p c h top (looked_for by_result (asks_in p c) ss x)
@@ -238,6 +238,15 @@ client_step : (p : Plan) (c : ℕ) (e : Entry) (h : List Entry) (o : Option ℕ)
 client_step p c e h None q f w = w
 client_step p c e h (Some s) q f w = cond_both (s == c) (flushed by_result (acted_by (sight_of p c h) e.op (client_of p c h))) (client_of p c h) (TracksAt p c (e ∷ h) (sends_of c (e ∷ h))) (λ t. f (q ∙ ap Some (same_number s c t))) (λ _. w)
 
+-- what client c keeps after its own operation, before it prints what is ready
+pub acted_tracked : (p : Plan) (c : ℕ) (e : Entry) (h : List Entry) → ReadsAreReads p → IsHistory p (e ∷ h) → client_in e.op ≡ Some c → KeepsTrack p c h (client_of p c h).sent (client_of p c h).begun (sends_of c h) → TracksAt p c (e ∷ h) (sends_of c (e ∷ h)) (acted_by (sight_of p c h) e.op (client_of p c h))
+acted_tracked p c e h v l q before =
+    let x = client_of p c h in
+    let y = acted_by (sight_of p c h) e.op x in
+    let old : TracksAt p c (e ∷ h) (sends_of c h) x = record { answered = before.answered; last = before.last; tracked = tracked_stays p c e h before.answered before.last x.sent x.begun l before.tracked } in
+    subst (λ z. TracksAt p c (e ∷ h) z y) (top_is c h e.op q)
+    (own_step p c h (e ∷ h) (seen_by c h) (mark_of h) (sends_of c h) x e.op v (entry_acts p c e h l q) (reads_so p c h v l.0) (tells_so p c e h e.op l refl q (due p e h l)) (seen_grows c e.lines (seen_by c h)) old)
+
 tracked_step : (p : Plan) (c : ℕ) (e : Entry) (h : List Entry) → ReadsAreReads p → IsHistory p (e ∷ h) → TracksAt p c h (sends_of c h) (client_of p c h) → TracksAt p c (e ∷ h) (sends_of c (e ∷ h)) (client_of p c (e ∷ h))
 tracked_step p c e h v l before = client_step p c e h (client_in e.op) refl own (raise p c (e ∷ h) x.sent x.begun (sends_of c h) (sends_of c (e ∷ h)) ((numbers_never_fall h (e ∷ [])).sends c) old)
   where
@@ -248,11 +257,7 @@ tracked_step p c e h v l before = client_step p c e h (client_in e.op) refl own 
     old = record { answered = before.answered; last = before.last; tracked = tracked_stays p c e h before.answered before.last x.sent x.begun l before.tracked }
 
     own : client_in e.op ≡ Some c → TracksAt p c (e ∷ h) (sends_of c (e ∷ h)) (flushed by_result (acted_by (sight_of p c h) e.op x))
-    own q =
-        let y = acted_by (sight_of p c h) e.op x in
-        drop_ready p c (e ∷ h) y.sent y.begun (sends_of c (e ∷ h))
-        (subst (λ z. TracksAt p c (e ∷ h) z y) (top_is c h e.op q)
-        (own_step p c h (e ∷ h) (seen_by c h) (mark_of h) (sends_of c h) x e.op v (entry_acts p c e h l q) (reads_so p c h v l.0) (tells_so p c e h e.op l refl q (due p e h l)) (seen_grows c e.lines (seen_by c h)) old))
+    own q = let y = acted_by (sight_of p c h) e.op x in drop_ready p c (e ∷ h) y.sent y.begun (sends_of c (e ∷ h)) (acted_tracked p c e h v l q before)
 
 pub sent_tracked : SentCommandsAreTracked
 sent_tracked p c [] v l = record { answered = 0; last = 0; tracked = (refl, omega arith) }

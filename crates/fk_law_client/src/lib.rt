@@ -3,6 +3,9 @@
 #![tactic(auto)]
 
 mod inboxes;
+mod kept_commands;
+mod operations;
+mod public_lines;
 mod refusal_numbers;
 mod replies;
 mod sent_commands;
@@ -10,6 +13,9 @@ mod shown_numbers;
 mod views;
 
 pub use inboxes::inbox_messages_are_true;
+pub use kept_commands::kept_commands_have_their_source;
+pub use operations::client_operations_say;
+pub use public_lines::every_line_has_its_operation;
 pub use refusal_numbers::{mark_was_pushed, refusal_stays_at_its_number};
 pub use replies::{replies_are_in_order, unfit_commands_are_refused};
 pub use sent_commands::sent_commands_are_tracked;

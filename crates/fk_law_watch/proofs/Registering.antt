@@ -46,6 +46,18 @@ NoClients (op.SendFault c i) = ⊥
 NoClients (op.Local c i) = ⊥
 NoClients (op.Read c i stamp) = ⊥
 NoClients (op.ReadFault c i) = ⊥
+NoClients (op.Pong c ping) = ⊥
+NoClients (op.PongFault c) = ⊥
+NoClients (op.TakeDone c k t) = ⊥
+NoClients (op.TakeEvicted c k t) = ⊥
+NoClients (op.TakeRefused c k) = ⊥
+NoClients (op.TakeLost c k) = ⊥
+NoClients (op.TakeWatch c id) = ⊥
+NoClients (op.TakePing c ping) = ⊥
+NoClients (op.TakeFault c) = ⊥
+NoClients (op.LookBehind c i mark) = ⊥
+NoClients (op.LookHeld c i mark id) = ⊥
+NoClients (op.LookFault c i) = ⊥
 NoClients _ = Unit {0}
 
 locked_none : (n t : ℕ) (o : Option locks.Passed) → NoClients (commit_locked n t o)

@@ -1,0 +1,139 @@
+-- Each reply fits the tree.
+use Rattle.std.specs.Prelude.{nat_le}
+use Rattle.std.proofs.Common.{◌≡◌, ℕ, ◌≤◌, true, List, [], ◌∷◌, sym, ◌∙◌, ap, subst, arith, Option, Some, None}
+use Rattle.std.proofs.lemmas.Bool.Decides.{nat_tests}
+use Rattle.fk_tree.specs.Apply.{reply_of}
+use Rattle.fk_tree.specs.Ask.{ask}
+use Rattle.fk_tree.specs.Edit.{view_after}
+use Rattle.fk_tree.specs.declared.reply.Answer.{Answer}
+use Rattle.fk_tree.specs.declared.reply.Answer.TheVariants as answer
+use Rattle.fk_tree.specs.declared.reply.Reply.{Reply}
+use Rattle.fk_tree.specs.declared.reply.Reply.TheVariants as reply
+use Rattle.fk_tree.specs.declared.request.Query.{Query}
+use Rattle.fk_print.specs.declared.entry.Entry.{Entry}
+use Rattle.fk_print.specs.declared.line.Line.{Line}
+use Rattle.fk_print.specs.declared.line.Line.TheVariants as line
+use Rattle.fk_print.specs.declared.line.Shown.{Shown}
+use Rattle.fk_print.specs.declared.line.Verb.{Verb}
+use Rattle.fk_spec.specs.Plan.{Plan, Ask, Want, Unfit, Writes, Reads, asked}
+use Rattle.fk_spec.specs.Locks.{Loss}
+use Rattle.fk_spec.specs.Settling.{Outcome, Committed, Refused, Passed}
+use Rattle.fk_spec.specs.Stored.{committed_of, up_to}
+use Rattle.fk_spec.specs.Client.{Result, Open, Settled, Plain, Expired}
+use Rattle.fk_spec.specs.Replies.{shown_answer, shown_loss, shown_reply}
+use Rattle.fk_spec.specs.PublicLines.{Each, greatest_tx, lines_of, txs_among, txs_of}
+use Rattle.fk_spec.specs.Published.{published_as}
+use Rattle.fk_spec.specs.Promises.{AnswersAt, AskShows, ReadShows, ReplyFits, ShowsOwn, WantShows, WriteShows, own_tx, tx_of_command}
+use Rattle.fk_spec.specs.Next.{IsHistory, printed_of}
+use Rattle.fk_law.specs.Due.{IsApplied}
+use Rattle.fk_law.proofs.Publishing.{published_tree_is_shown}
+use Rattle.fk_law.proofs.Sending.{tx_is}
+use Rattle.fk_law.proofs.TxLines.{published_as_committed, uncommitted_request_has_no_line}
+use Rattle.fk_law_client.specs.Ordering.{IsInOrder}
+use Rattle.fk_law_client.proofs.Printing.{replies_ordered}
+use Rattle.fk_law_reply.specs.Replying.{IsWriteSent, IsAppliedReply, ShowsOutcome, IsRefusedReply, ShowsOwnResult, IsOwnReply, IsAnswer, Why, AsApplied, AsRefused, AsOwn, AsAnswered, AsFailed, IsExplained, ReplyIsExplained, RepliesFitTheTree}
+use Rattle.fk_law_reply.proofs.Explaining.{replies_are_explained}
+
+-- Writes. ----------------------------------------------------------------------------------------------
+
+-- an ok line of a write
+reply_shows : (p : Plan) (h : List Entry) (b : List Line) (c i t : ℕ) (r : Reply) → ShowsOwn p h (shown_reply t r) (tx_of_command c i h (txs_among b)) → WriteShows p h b c i (shown_reply t r)
+reply_shows p h b c i t (reply.Created path) x = x
+reply_shows p h b c i t (reply.Version version) x = x
+reply_shows p h b c i t reply.Deleted x = x
+reply_shows p h b c i t reply.Closed x = x
+reply_shows p h b c i t (reply.Multi replies) x = x
+
+applied_shows : (p : Plan) (h : List Entry) (b : List Line) (c i : ℕ) (s : Shown) (w : Want) → IsHistory p h → IsAppliedReply p h b c i s w → WriteShows p h b c i s
+applied_shows p h b c i s w l x = subst (WriteShows p h b c i) (sym x.shows) (reply_shows p h b c i x.tx (reply_of x.applied) (subst (ShowsOwn p h (shown_reply x.tx (reply_of x.applied))) (sym line) shown_so))
+  where
+    line : tx_of_command c i h (txs_among b) ≡ Some (printed_of x.applied)
+    line = ap (λ o. own_tx c o (txs_among b)) x.sent.number ∙ x.line_stands
+
+    number : x.applied.tx ≡ x.tx
+    number = tx_is x.tx (committed_of p h) x.applied x.committed
+
+    published : published_as p x.applied.tx h ≡ Some x.applied
+    published = ap (λ t. published_as p t h) number ∙ published_as_committed p x.tx h x.applied l x.push.published x.committed
+
+    shown_so : ShowsOwn p h (shown_reply x.tx (reply_of x.applied)) (Some (printed_of x.applied))
+    shown_so = rw published (ap (λ t. shown_reply t (reply_of x.applied)) (sym number))
+
+loss_shows : (p : Plan) (h : List Entry) (b : List Line) (c i : ℕ) (o : Option Loss) → tx_of_command c i h (txs_of h) ≡ None → WriteShows p h b c i (shown_loss o)
+loss_shows p h b c i None e = e
+loss_shows p h b c i (Some x) e = e
+
+outcome_shows : (p : Plan) (h : List Entry) (b : List Line) (c i : ℕ) (s : Shown) (o : Outcome) → ShowsOutcome s o → tx_of_command c i h (txs_of h) ≡ None → WriteShows p h b c i s
+outcome_shows p h b c i s (Committed t) f e = absurd f
+outcome_shows p h b c i s (Refused cd place at) f e = subst (WriteShows p h b c i) (sym f) e
+outcome_shows p h b c i s (Passed loss) f e = subst (WriteShows p h b c i) (sym f) (loss_shows p h b c i loss e)
+
+not_applied : (s : Shown) (o : Outcome) → ShowsOutcome s o → IsApplied (Some o) → ⊥
+not_applied s (Committed t) f a = f
+not_applied s (Refused cd place at) f a = a
+not_applied s (Passed loss) f a = a
+
+refused_shows : (p : Plan) (h : List Entry) (b : List Line) (c i : ℕ) (s : Shown) (w : Want) → IsHistory p h → IsRefusedReply p h c i s w → WriteShows p h b c i s
+refused_shows p h b c i s w l x = outcome_shows p h b c i s x.outcome x.shows (ap (λ o. own_tx c o (txs_of h)) x.sent.number ∙ uncommitted_request_has_no_line p c x.k h l (λ a. not_applied s x.outcome x.shows (subst IsApplied x.settled a)))
+
+own_shows : (p : Plan) (h : List Entry) (b : List Line) (c i : ℕ) (s : Shown) (r : Result) → ShowsOwnResult s b r → tx_of_command c i h (txs_of h) ≡ None → WriteShows p h b c i s
+own_shows p h b c i s (Plain cd) f e = subst (WriteShows p h b c i) (sym f) e
+own_shows p h b c i s (Expired at) f e = subst (WriteShows p h b c i) (sym f.0) e
+own_shows p h b c i s Open f e = absurd f
+own_shows p h b c i s (Settled o) f e = absurd f
+
+-- Reads. -----------------------------------------------------------------------------------------------
+
+at_most : (a b : ℕ) → a ≤ b → nat_le a b ≡ true
+at_most a b e = grind (arith, nat_tests)
+
+own_reads : (h : List Entry) (b : List Line) (q : Query) (s : Shown) (r : Result) → ShowsOwnResult s b r → ReadShows h b q s
+own_reads h b q s (Plain cd) f = subst (ReadShows h b q) (sym f) tt
+own_reads h b q s (Expired at) f = subst (ReadShows h b q) (sym f.0) (at_most at (greatest_tx (txs_among b)) f.1)
+own_reads h b q s Open f = absurd f
+own_reads h b q s (Settled o) f = absurd f
+
+answer_reads : (h : List Entry) (b : List Line) (q : Query) (n : ℕ) (a : Answer) → AnswersAt h b q (shown_answer n a) (Some n) → ReadShows h b q (shown_answer n a)
+answer_reads h b q n (answer.Got bytes stat) x = x
+answer_reads h b q n (answer.Stated stat) x = x
+answer_reads h b q n (answer.Listed names) x = x
+answer_reads h b q n answer.NoNode x = x
+
+answered_shows : (p : Plan) (h : List Entry) (b : List Line) (s : Shown) (w : Want) → IsHistory p h → (x : IsAnswer p h b s w) → ReadShows h b x.query s
+answered_shows p h b s w l x =
+    let v = view_after (up_to x.number (committed_of p h)) in
+    subst (ReadShows h b x.query) (sym x.shows)
+    (answer_reads h b x.query x.number (ask v x.query) (ap (λ z. shown_answer x.number (ask z x.query)) (sym (published_tree_is_shown p x.number h l x.published)), at_most x.number (greatest_tx (txs_among b)) x.printed))
+
+-- Each reply. ------------------------------------------------------------------------------------------
+
+written_shows : (p : Plan) (h : List Entry) (b : List Line) (c i k : ℕ) (s : Shown) (w : Want) → IsWriteSent p h c i k w → WriteShows p h b c i s → WantShows p h b c i s w
+written_shows p h b c i k s w x y = subst (WantShows p h b c i s) (sym x.writes) y
+
+own_want : (p : Plan) (h : List Entry) (b : List Line) (c i : ℕ) (s : Shown) (a : Ask) (w : Want) → IsOwnReply p h b c i s a → WantShows p h b c i s w
+own_want p h b c i s a Unfit x = own_shows p h b c i s x.result x.shows (ap (λ o. own_tx c o (txs_of h)) x.unsent)
+own_want p h b c i s a (Writes r) x = own_shows p h b c i s x.result x.shows (ap (λ o. own_tx c o (txs_of h)) x.unsent)
+own_want p h b c i s a (Reads q watch) x = own_reads h b q s x.result x.shows
+
+why_shows : (p : Plan) (h : List Entry) (b : List Line) (c i : ℕ) (s : Shown) (a : Ask) → IsHistory p h → Why p h b c i s a → WantShows p h b c i s a.want
+why_shows p h b c i s a l (AsApplied x) = written_shows p h b c i x.k s a.want x.sent (applied_shows p h b c i s a.want l x)
+why_shows p h b c i s a l (AsRefused x) = written_shows p h b c i x.k s a.want x.sent (refused_shows p h b c i s a.want l x)
+why_shows p h b c i s a l (AsOwn x) = own_want p h b c i s a a.want x
+why_shows p h b c i s a l (AsAnswered x) = subst (WantShows p h b c i s) (sym x.reads) (answered_shows p h b s a.want l x)
+why_shows p h b c i s a l (AsFailed x) = subst (WantShows p h b c i s) (sym x.reads) (subst (ReadShows h b x.query) (sym x.shows) tt)
+
+explained_shows : (p : Plan) (h : List Entry) (b : List Line) (c i : ℕ) (v : Verb) (s : Shown) → IsHistory p h → IsExplained p h b c i v s → AskShows p h b c i v s (asked p c i)
+explained_shows p h b c i v s l x = subst (AskShows p h b c i v s) (sym x.is_asked) (x.verb, why_shows p h b c i s x.ask l x.why)
+
+reply_fits : (p : Plan) (h : List Entry) → IsHistory p h → (l : Line) (b : List Line) → IsInOrder l b → ReplyIsExplained p h l b → ReplyFits p h l b
+reply_fits p h k (line.Reply c i v s) b o x = (o, explained_shows p h b c i v s k x)
+reply_fits p h k (line.Tx printed) b o x = tt
+reply_fits p h k (line.Notice c t kind _ path) b o x = tt
+reply_fits p h k (line.Expired c t) b o x = tt
+
+each_fits : (p : Plan) (h : List Entry) → IsHistory p h → (ls : List Line) → Each IsInOrder ls → Each (ReplyIsExplained p h) ls → Each (ReplyFits p h) ls
+each_fits p h k [] o x = tt
+each_fits p h k (l ∷ ls) o x = (reply_fits p h k l ls o.0 x.0, each_fits p h k ls o.1 x.1)
+
+pub replies_fit_the_tree : RepliesFitTheTree
+replies_fit_the_tree p h r l = each_fits p h l (lines_of h) (replies_ordered p h r l) (replies_are_explained p h r l)

@@ -1,0 +1,4 @@
+pub mod Ledger
+pub mod Finding
+pub mod Explaining
+pub mod Fitting

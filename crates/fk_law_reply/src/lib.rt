@@ -1,0 +1,11 @@
+//! Laws of what clients are answered, in every history that the rules allow. Each law is the clause of a
+//! function without a body.
+#![tactic(auto)]
+
+mod made_reads;
+mod replies;
+mod sent_numbers;
+
+pub use made_reads::reads_show_the_tree;
+pub use replies::{replies_are_explained, replies_fit};
+pub use sent_numbers::{commands_are_begun_in_order, kept_commands_are_entered};
