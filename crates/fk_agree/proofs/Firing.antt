@@ -40,7 +40,7 @@ fired_once_more : (id t : ℕ) (w : Watch) (o : Option Change) (fs : List Firing
 fired_once_more id t w None fs e a b = b
 fired_once_more id t w (Some c) fs e a b = (subst (λ x. firing_with x fs ≡ None) (sym e) a, b)
 
-firings_once : (t : ℕ) (ts : List Touch) (ws : List Watch) → AreUnique ws → FireOnce (firings t ts ws)
+pub firings_once : (t : ℕ) (ts : List Touch) (ws : List Watch) → AreUnique ws → FireOnce (firings t ts ws)
 firings_once t ts [] u = tt
 firings_once t ts (w ∷ ws) u = fired_once_more w.id t w (first_taken w.path w.kind ts) (firings t ts ws) refl (fires_none w.id t ts ws u.0) (firings_once t ts ws u.1)
 

@@ -2,6 +2,7 @@
 use Rattle.std.specs.Prelude.{◌==◌, option_map}
 use Rattle.std.specs.List.{AllByRecursion}
 use Rattle.std.proofs.Common.{◌≡◌, ℕ, ◌+◌, ◌≤◌, ◌++◌, Bool, true, false, cond, List, [], ◌∷◌, refl, sym, ◌∙◌, ap, subst, arith, Option, Some, None}
+use Rattle.std.proofs.lemmas.Bool.{eq-eqb}
 use Rattle.std.proofs.lemmas.Bool.Decides.{nat_tests}
 use Rattle.fk_print.specs.declared.entry.Entry.{Entry}
 use Rattle.fk_print.specs.declared.op.Op.{Op}
@@ -67,9 +68,6 @@ hold_head P (x ∷ xs) k i e = subst (λ n. P n x.bytes) (some_same x.number k e
     some_same : (a b : ℕ) → Some a ≡ Some b → a ≡ b
     some_same a b f = cc
 
-own_number : (n : ℕ) → (n == n) ≡ true
-own_number n = grind (arith, nat_tests)
-
 -- A session's lane. -------------------------------------------------------------------------------------
 
 request_on : (p : Plan) (c k : ℕ) (e : Entry) (h : List Entry) (bytes : List ℕ) → IsHistory p (e ∷ h) → IsRequestText p c k h bytes → IsRequestText p c k (e ∷ h) bytes
@@ -99,7 +97,7 @@ request_new p c e h bytes f = by_origin (sent_in c h e.op) refl f
     }
       where
         here : origin_of c (sends_of c h + 1) (e ∷ h) ≡ Some y
-        here = ap (λ o. origin_here (sends_of c h) (sends_of c h + 1) o (origin_of c (sends_of c h + 1) h)) a ∙ ap (λ b. cond b (Some y) (origin_of c (sends_of c h + 1) h)) (own_number (sends_of c h + 1))
+        here = ap (λ o. origin_here (sends_of c h) (sends_of c h + 1) o (origin_of c (sends_of c h + 1) h)) a ∙ ap (λ b. cond b (Some y) (origin_of c (sends_of c h + 1) h)) (eq-eqb (sends_of c h + 1) (sends_of c h + 1) refl)
 
     by_origin : (o : Option Origin) → sent_in c h e.op ≡ o → option_map (sent_text version.Two) (sent_from p c o) ≡ Some bytes → IsRequestText p c (sends_of c h + 1) (e ∷ h) bytes
     by_origin None a g = absurd (none_some g)

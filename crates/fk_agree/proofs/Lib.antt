@@ -1,3 +1,4 @@
+pub mod Bounds
 pub mod Carried
 pub mod Committing
 pub mod Counting

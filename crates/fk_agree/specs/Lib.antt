@@ -3,6 +3,7 @@ pub use Rattle.fk_stand.specs.Posts
 pub use Rattle.fk_stand.specs.Stores
 pub use Rattle.fk_stand.specs.Tables
 pub mod Commits
+pub mod Ends
 pub mod Heads
 pub mod Letters
 pub mod Pushes

@@ -17,7 +17,7 @@ use Rattle.fk_law.proofs.Settled.{reached}
 probes_step : (p : Plan) (n c : ℕ) (o : Op) (x : Option Task) → BeatsAClient p o → (x ≡ Some (Probes c) → is_client p c ≡ true) → or_else (task_here n (started_in o)) x ≡ Some (Probes c) → is_client p c ≡ true
 probes_step p n c o x b i e = grind (arith, nat_tests)
 
-probes_client : (p : Plan) (n c : ℕ) (h : List Entry) → BeatsClients p h → task_of n h ≡ Some (Probes c) → is_client p c ≡ true
+pub probes_client : (p : Plan) (n c : ℕ) (h : List Entry) → BeatsClients p h → task_of n h ≡ Some (Probes c) → is_client p c ≡ true
 probes_client p n c [] b e = absurd (grind arith)
 probes_client p n c (x ∷ h) b e = probes_step p n c x.op (task_of n h) b.1 (probes_client p n c h b.0) e
 
@@ -35,7 +35,7 @@ none_empty : (i : ℕ) → nth no_asks i ≡ None
 none_empty zero = refl
 none_empty (suc i) = refl
 
-none_asked : (p : Plan) (c i : ℕ) → is_client p c ≡ false → asked p c i ≡ None
+pub none_asked : (p : Plan) (c i : ℕ) → is_client p c ≡ false → asked p c i ≡ None
 none_asked p zero i f = none_empty i
 none_asked p (suc c) i f = ap (λ xs. nth (or_empty xs) i) (none_after p.asks c (grind (arith, nat_tests))) ∙ none_empty i
 

@@ -1,0 +1,5 @@
+mod BeatServices
+mod Beating
+mod Fired
+mod TellerServices
+mod Telling
