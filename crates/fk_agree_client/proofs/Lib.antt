@@ -1,7 +1,9 @@
 pub mod Acting
+pub mod Fitting
 pub mod Going
 pub mod Inbox
 pub mod Numbers
 pub mod Printing
 pub mod Reading
+pub mod Written
 pub mod Telling

@@ -1,3 +1,4 @@
 pub mod Inbox
 pub mod Standing
 pub mod Making
+pub mod Serving

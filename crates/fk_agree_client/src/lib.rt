@@ -5,6 +5,8 @@
 
 mod clients;
 mod inboxes;
+mod serving;
 
 pub use clients::{client_goes_on, client_makes_its_op, clients_stand};
 pub use inboxes::inbox_says_its_messages;
+pub use serving::{client_is_fit, client_is_written};
