@@ -20,6 +20,7 @@ ghost use Rattle.fk_wire.specs.declared.version.Version.TheVariants as version;
 ghost use Rattle.fk_watch.specs.Beating.{after_step, evict_sent, going_to, is_ended, next_with, note_conds, note_op, note_writes, post_after_step, probe_op, started, step_op, table_after_step};
 ghost use Rattle.fk_watch.specs.BeatingFit.{IsFit, IsReadable};
 ghost use Rattle.fk_watch.specs.BeatingStanding.{beat_of};
+ghost use Rattle.fk_watch.specs.BeatingSteps.{Steps, services_of};
 ghost use Rattle.fk_watch.specs.BeatingSaid.{note_by};
 
 use fk_base::NoMemory;
@@ -85,7 +86,6 @@ impl Beat {
     /// Makes the operation before which it stands, with one call of one of the services, and gives its
     /// line; a ping is late once `beat` has passed. After `NoMemory` neither the heartbeat nor the
     /// services are to be used further.
-    #[tactic(auto, unfolding(crate::specs::BeatingStanding::beat_of))]
     pub fn step<T: Table>(
         &mut self,
         table: &mut T,
@@ -94,9 +94,30 @@ impl Beat {
         beat: u64,
     ) -> Result<Op, NoMemory>
         requires { IsFit (T.meaning table.old) (post_of post.old) (beat_of self.old) }
-        ensures op { IfOk result (λ o. o ≡ step_op (T.meaning table.old) (post_of post.old) now beat (beat_of self.old)) }
-        ensures heartbeat { OnOk result (beat_of self.new ≡ after_step (T.meaning table.old) (post_of post.old) now beat (beat_of self.old)) }
-        ensures table { OnOk result (T.meaning table.new ≡ table_after_step (T.meaning table.old) now (beat_of self.old)) }
+        ensures { IfOk result (λ o. Steps
+            (services_of (T.meaning table.old) post.old)
+            (services_of (T.meaning table.new) post.new)
+            (beat_of self.old) (beat_of self.new) now beat o) }
+    {
+        self.operate(table, post, now, beat)
+    }
+
+    // makes the operation of its state
+    #[tactic(auto, unfolding(crate::specs::BeatingStanding::beat_of))]
+    fn operate<T: Table>(
+        &mut self,
+        table: &mut T,
+        post: &mut Post,
+        now: u64,
+        beat: u64,
+    ) -> Result<Op, NoMemory>
+        requires { IsFit (T.meaning table.old) (post_of post.old) (beat_of self.old) }
+        ensures op { IfOk result (λ o. o
+            ≡ step_op (T.meaning table.old) (post_of post.old) now beat (beat_of self.old)) }
+        ensures heartbeat { OnOk result (beat_of self.new
+            ≡ after_step (T.meaning table.old) (post_of post.old) now beat (beat_of self.old)) }
+        ensures table { OnOk result (T.meaning table.new
+            ≡ table_after_step (T.meaning table.old) now (beat_of self.old)) }
         ensures post { OnOk result (post_of post.new ≡ post_after_step (post_of post.old) (beat_of self.old)) }
         ensures readable { OnOk result (IsReadable (beat_of self.old).inv (beat_of self.old).stage) }
     {
