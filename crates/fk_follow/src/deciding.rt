@@ -43,7 +43,9 @@ pub fn rows_of(alloc: Global, granted: &[Granted]) -> Result<Rows, NoMemory>
 // the path at this place, from 0
 #[tactic(auto, using(crate::proofs::Items::item_here, crate::proofs::Items::item_beyond))]
 fn item_at(paths: &[Path], place: usize) -> Option<&Path>
-    ensures { MatchOption result (item_after paths.now place ≡ None) (λ p. item_after paths.now place ≡ Some p.now) }
+    ensures { MatchOption result
+        (item_after paths.now place ≡ None)
+        (λ p. item_after paths.now place ≡ Some p.now) }
 {
     if place < paths.len() {
         Some(&paths[place])
@@ -61,7 +63,8 @@ fn decide(
     granted: &[Granted],
 ) -> Result<State, NoMemory>
     requires { HasFewParts request.now }
-    ensures { IfOk result (λ s. s ≡ decided_as at (check (view_of (grants_of granted.now)) session request.now)) }
+    ensures { let view = view_of (grants_of granted.now) in
+        IfOk result (λ s. s ≡ decided_as at (check view session request.now)) }
 {
     let rows = rows_of(alloc, granted)?;
     match rows.check(session, request) {
@@ -81,7 +84,8 @@ pub fn next_state(
     granted: &[Granted],
 ) -> Result<State, NoMemory>
     requires { HasFewParts message.now.request }
-    ensures { IfOk result (λ s. s ≡ state_after message.now.seen session last owned.now granted.now message.now.request) }
+    ensures { IfOk result (λ s. s
+        ≡ state_after message.now.seen session last owned.now granted.now message.now.request) }
 {
     let paths = lock_paths(alloc, granted, owned, &message.request)?;
     match item_at(paths.as_slice(), granted.len()) {

@@ -51,7 +51,8 @@ pub fn greatest_last(granted: &[Granted]) -> u64
 
 /// The node that the record of a path showed; a path that isn't granted shows none.
 pub fn node_in<'a>(granted: &'a [Granted], path: &Path) -> Option<&'a Node>
-    ensures { MatchOption result (node_in (grants_of granted.now) path.now ≡ None) (λ n. node_in (grants_of granted.now) path.now ≡ Some n.now) }
+    ensures { let node = node_in (grants_of granted.now) path.now in
+        MatchOption result (node ≡ None) (λ n. node ≡ Some n.now) }
 {
     'seeking: for lock in granted {
         if lock.path.same(path) {

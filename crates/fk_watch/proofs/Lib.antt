@@ -1,12 +1,10 @@
 pub mod BeatingAnswers
-pub mod BeatingStepped
 pub mod Changing
 pub mod Firing
 pub mod Indexing
 pub mod Listed
 pub mod Noting
 pub mod Standing
-pub mod TellingStepped
 pub mod TellingSteps
 pub mod Touching
 pub mod Uniqueness

@@ -86,6 +86,7 @@ impl Beat {
     /// Makes the operation before which it stands, with one call of one of the services, and gives its
     /// line; a ping is late once `beat` has passed. After `NoMemory` neither the heartbeat nor the
     /// services are to be used further.
+    #[tactic(auto, unfolding(crate::specs::BeatingStanding::beat_of))]
     pub fn step<T: Table>(
         &mut self,
         table: &mut T,
@@ -98,28 +99,6 @@ impl Beat {
             (services_of (T.meaning table.old) post.old)
             (services_of (T.meaning table.new) post.new)
             (beat_of self.old) (beat_of self.new) now beat o) }
-    {
-        self.operate(table, post, now, beat)
-    }
-
-    // makes the operation of its state
-    #[tactic(auto, unfolding(crate::specs::BeatingStanding::beat_of))]
-    fn operate<T: Table>(
-        &mut self,
-        table: &mut T,
-        post: &mut Post,
-        now: u64,
-        beat: u64,
-    ) -> Result<Op, NoMemory>
-        requires { IsFit (T.meaning table.old) (post_of post.old) (beat_of self.old) }
-        ensures op { IfOk result (λ o. o
-            ≡ step_op (T.meaning table.old) (post_of post.old) now beat (beat_of self.old)) }
-        ensures heartbeat { OnOk result (beat_of self.new
-            ≡ after_step (T.meaning table.old) (post_of post.old) now beat (beat_of self.old)) }
-        ensures table { OnOk result (T.meaning table.new
-            ≡ table_after_step (T.meaning table.old) now (beat_of self.old)) }
-        ensures post { OnOk result (post_of post.new ≡ post_after_step (post_of post.old) (beat_of self.old)) }
-        ensures readable { OnOk result (IsReadable (beat_of self.old).inv (beat_of self.old).stage) }
     {
         match self.state {
             BeatState::Probe => Ok(self.probe(table, now, beat)),

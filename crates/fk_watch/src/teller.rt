@@ -81,28 +81,13 @@ impl Teller {
 
     /// Makes the operation before which it stands, with one call of one of the services, and gives its
     /// line. After `NoMemory` neither the watch function nor the services are to be used further.
+    #[tactic(auto, unfolding(crate::specs::TellingStanding::teller_of))]
     pub fn step(&mut self, post: &mut Post, watches: &mut WatchTable) -> Result<Op, NoMemory>
         requires { IsFit (post_of post.old) (teller_of self.old) }
         ensures { IfOk result (λ o. Steps
             (services_of post.old watches.old)
             (services_of post.new watches.new)
             (teller_of self.old) (teller_of self.new) o) }
-    {
-        self.operate(post, watches)
-    }
-
-    // makes the operation of its state
-    #[tactic(auto, unfolding(crate::specs::TellingStanding::teller_of))]
-    fn operate(&mut self, post: &mut Post, watches: &mut WatchTable) -> Result<Op, NoMemory>
-        requires { IsFit (post_of post.old) (teller_of self.old) }
-        ensures op { IfOk result (λ o. o
-            ≡ step_op (post_of post.old) (watches_of watches.old) (teller_of self.old)) }
-        ensures teller { OnOk result (teller_of self.new
-            ≡ after_step (post_of post.old) (watches_of watches.old) (teller_of self.old)) }
-        ensures post { OnOk result (post_of post.new ≡ post_after_step (post_of post.old) (teller_of self.old)) }
-        ensures watches { OnOk result (watches_of watches.new
-            ≡ watches_after_step (watches_of watches.old) (teller_of self.old)) }
-        ensures readable { OnOk result (IsReadable (teller_of self.old).stage) }
     {
         match self.state {
             TellerState::Tell => match self.next()? {
