@@ -1,6 +1,6 @@
 //! The set watches, found by their numbers, and by path, kind and session.
 
-ghost use Rattle.std.specs.Prelude.{◌≡◌, ◌∷◌, [], ℕ, ◌==◌, ◌&&◌, None, Some, if◌then◌else◌, IfNone, IfSome, OnErr, OnOk};
+ghost use Rattle.std.specs.Prelude.{◌≡◌, [], ℕ, ◌==◌, None, Some, if◌then◌else◌, IfNone, IfSome, OnErr, OnOk};
 ghost use Rattle.fk_base.specs.Path.{PathNames};
 ghost use Rattle.fk_tree.specs.declared.change.Kind.{Kind};
 ghost use Rattle.fk_watch.specs.Moving.{touched_by, KeepsOthers};

@@ -1,6 +1,6 @@
 //! The last sweep of each path.
 
-ghost use Rattle.std.specs.Prelude.{◌≡◌, ℕ, true, if◌then◌else◌, OnOk};
+ghost use Rattle.std.specs.Prelude.{◌≡◌, true, if◌then◌else◌, OnOk};
 ghost use Rattle.fk_base.specs.Path.{PathNames, same_path};
 ghost use Rattle.fk_tree.specs.Watch.{has_touch};
 ghost use Rattle.fk_watch.specs.Kept.{last_in};

@@ -1,7 +1,6 @@
 //! The table of watches.
 
-ghost use Rattle.std.specs.Prelude.{◌≡◌, ◌<◌, ◌≤◌, ◌^◌, ◌+◌, ◌-◌, ℕ, false, None, Some, if◌then◌else◌, is_some, IfOk, OnErr, OnOk};
-ghost use Rattle.fk_base.specs.Path.{PathNames};
+ghost use Rattle.std.specs.Prelude.{◌≡◌, ◌<◌, ◌^◌, ◌+◌, ◌-◌, ℕ, false, None, Some, if◌then◌else◌, is_some, IfOk, OnErr, OnOk};
 ghost use Rattle.fk_watch.specs.Answers.{after_register, after_sweep, after_told, fired_with, AreFired, IsEpoch, IsRegister, IsSweep, IsTold};
 ghost use Rattle.fk_watch.specs.Kept.{watches_of};
 ghost use Rattle.fk_watch.specs.Meaning.{armed, calmed, failed, new_watches};

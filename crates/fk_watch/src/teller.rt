@@ -17,8 +17,8 @@ ghost use Rattle.fk_wire.specs.declared.message.Tell.TheVariants as tell;
 ghost use Rattle.fk_wire.specs.declared.version.Version.TheVariants as version;
 ghost use Rattle.fk_watch.specs.Kept.{watches_of};
 ghost use Rattle.fk_watch.specs.Notes.{firing_as, firings_as};
-ghost use Rattle.fk_watch.specs.Telling.{after_step, going_to, is_ended, next_with, post_after_step, started, step_op, told_at, watches_after_step};
-ghost use Rattle.fk_watch.specs.TellingFit.{CanTell, IsFit, IsReadable};
+ghost use Rattle.fk_watch.specs.Telling.{going_to, is_ended, next_with, started, told_at};
+ghost use Rattle.fk_watch.specs.TellingFit.{CanTell, IsFit};
 ghost use Rattle.fk_watch.specs.TellingStanding.{stage_of, teller_of};
 ghost use Rattle.fk_watch.specs.TellingSteps.{Steps, services_of};
 
