@@ -1,6 +1,6 @@
 //! A follower asks the table for its session's record, and for the session's nodes.
 
-ghost use Rattle.std.specs.Prelude.{◌≡◌, ◌≤◌, ◌+◌, ◌≢◌, ℕ, List, true, is_some, length, IfOk, OnOk};
+ghost use Rattle.std.specs.Prelude.{◌≡◌, ◌≤◌, ◌≢◌, ℕ, List, true, is_some, length, IfOk, OnOk};
 ghost use Rattle.fk_base.specs.Path.{PathNames};
 ghost use Rattle.fk_print.specs.declared.op.Op.TheVariants as op;
 ghost use Rattle.fk_print.specs.declared.op.Word.TheVariants as word;

@@ -1,12 +1,11 @@
 //! What a follower does after it was granted some locks.
 
-ghost use Rattle.std.specs.Prelude.{◌≡◌, IfOk, OnOk, MatchOption, Some, None, length, List};
-ghost use Rattle.fk_base.specs.Path.{PathNames};
+ghost use Rattle.std.specs.Prelude.{◌≡◌, IfOk, MatchOption, Some, None};
 ghost use Rattle.fk_tree.specs.Check.{HasFewParts, check};
 ghost use Rattle.fk_tree.specs.Shown.{rows_view};
 ghost use Rattle.fk_spec.specs.Follower.{view_of};
 ghost use Rattle.fk_spec.specs.Plan.{item_after};
-ghost use Rattle.fk_follow.specs.Deciding.{decided_as, refused_at, state_after};
+ghost use Rattle.fk_follow.specs.Deciding.{decided_as, state_after};
 ghost use Rattle.fk_follow.specs.Standing.{grants_of};
 
 use crate::granted::{Granted, greatest_last};

@@ -1,4 +1,4 @@
-ghost use Rattle.std.specs.Prelude.{◌≡◌, IfOk, OnOk};
+ghost use Rattle.std.specs.Prelude.{◌≡◌, OnOk};
 ghost use Rattle.fk_print.specs.declared.op.Op.TheVariants as op;
 ghost use Rattle.fk_spec.specs.Follower as stage;
 ghost use Rattle.fk_tree.specs.Check.{HasFewParts};

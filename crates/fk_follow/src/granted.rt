@@ -1,11 +1,8 @@
 //! The locks that a follower was granted, with what their records showed.
 
-ghost use Rattle.std.specs.Prelude.{◌≡◌, List, IfOk, OnOk, MatchOption, None, Some, max};
-ghost use Rattle.std.specs.Option.{option_copied};
-ghost use Rattle.fk_tree.specs.Sorted.{in_path_order};
+ghost use Rattle.std.specs.Prelude.{◌≡◌, MatchOption, None, Some};
 ghost use Rattle.fk_spec.specs.Follower.{greatest_last, node_in};
 ghost use Rattle.fk_follow.specs.Meaning.{own_moment};
-ghost use Rattle.fk_follow.specs.Operation.{paths_of};
 ghost use Rattle.fk_follow.specs.Standing.{grants_of, owns_of};
 
 use fk_base::{NoMemory, Path, Paths};

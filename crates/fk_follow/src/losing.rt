@@ -1,9 +1,7 @@
 //! A follower settles that it lost a lock.
 
-ghost use Rattle.std.specs.Prelude.{◌≡◌, ◌≤◌, ℕ, List, [], true, false, is_some, IfOk, OnOk};
-ghost use Rattle.fk_base.specs.Path.{PathNames};
+ghost use Rattle.std.specs.Prelude.{◌≡◌, ◌≤◌, [], true, false, is_some, IfOk, OnOk};
 ghost use Rattle.fk_print.specs.declared.op.Word.TheVariants as word;
-ghost use Rattle.fk_store.specs.declared.outcome.Outcome.TheVariants as outcome;
 ghost use Rattle.fk_follow.specs.Next.{GoesOn, GoesOnAfter};
 ghost use Rattle.fk_spec.specs.Failing.{or_fault};
 ghost use Rattle.fk_follow.specs.Operation.{lost_op};

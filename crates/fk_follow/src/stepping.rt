@@ -1,13 +1,8 @@
 //! A follower's step: one operation, by its state.
 
-ghost use Rattle.std.specs.Prelude.{◌≡◌, List, IfOk, OnOk};
-ghost use Rattle.fk_base.specs.Path.{PathNames};
+ghost use Rattle.std.specs.Prelude.{IfOk};
 ghost use Rattle.fk_queue.specs.Posts.{post_of};
-ghost use Rattle.fk_follow.specs.Fit.{IsFit, IsRead};
-ghost use Rattle.fk_follow.specs.Next.{next_with};
-ghost use Rattle.fk_follow.specs.Operation.{step_op};
-ghost use Rattle.fk_follow.specs.Sending.{IsReadable};
-ghost use Rattle.fk_follow.specs.Services.{post_after_step, table_after_step};
+ghost use Rattle.fk_follow.specs.Fit.{IsFit};
 ghost use Rattle.fk_follow.specs.Standing.{follower_of};
 ghost use Rattle.fk_follow.specs.Steps.{Steps, services_of};
 

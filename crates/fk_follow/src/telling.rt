@@ -1,7 +1,6 @@
 //! A follower tells its client what was kept of the request, and acknowledges its message.
 
-ghost use Rattle.std.specs.Prelude.{◌≡◌, ◌-◌, ◌<◌, ◌^◌, ℕ, List, true, Some, IfOk, OnOk};
-ghost use Rattle.fk_base.specs.Path.{PathNames};
+ghost use Rattle.std.specs.Prelude.{◌≡◌, ◌-◌, ◌<◌, ◌^◌, true, Some, IfOk, OnOk};
 ghost use Rattle.fk_print.specs.declared.op.Op.TheVariants as op;
 ghost use Rattle.fk_print.specs.declared.op.Word.TheVariants as word;
 ghost use Rattle.fk_queue.specs.Answers.{ack_of, after_ack};
@@ -9,7 +8,6 @@ ghost use Rattle.fk_queue.specs.Letters.{head_number};
 ghost use Rattle.fk_queue.specs.Meaning.{has_lane};
 ghost use Rattle.fk_queue.specs.Posts.{post_of};
 ghost use Rattle.fk_queue.specs.declared.lane.Lane.TheVariants as lane;
-ghost use Rattle.fk_store.specs.Meaning.{Meaning};
 ghost use Rattle.fk_spec.specs.Follower.{ack_op};
 ghost use Rattle.fk_wire.specs.Limits.{IsNumber};
 ghost use Rattle.fk_follow.specs.Fit.{IsLimitedOutcome};

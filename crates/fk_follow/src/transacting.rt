@@ -1,7 +1,6 @@
 //! A follower's transactions: it commits its push, or refuses its request.
 
-ghost use Rattle.std.specs.Prelude.{◌≡◌, ◌≤◌, ℕ, List, [], true, is_some, IfOk, OnOk};
-ghost use Rattle.fk_base.specs.Path.{PathNames};
+ghost use Rattle.std.specs.Prelude.{◌≡◌, ◌≤◌, [], true, is_some, IfOk, OnOk};
 ghost use Rattle.fk_base.specs.declared.code.Code.TheVariants as code;
 ghost use Rattle.fk_print.specs.declared.op.Word.TheVariants as word;
 ghost use Rattle.fk_store.specs.declared.outcome.Outcome.TheVariants as outcome;
