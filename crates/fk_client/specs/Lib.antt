@@ -11,5 +11,6 @@ pub mod Services
 pub mod Shown
 pub mod Sighting
 pub mod Standing
+pub mod Steps
 pub mod Told
 pub mod Wanted

@@ -1,14 +1,12 @@
 //! A client begins its next command.
 
-ghost use Rattle.std.specs.Prelude.{◌≡◌, ◌<◌, ◌^◌, ◌-◌, ◌+◌, ◌∷◌, ◌++◌, [], true, false, is_some, if◌then◌else◌, Option, None, Some, IfOk, OnOk};
-ghost use Rattle.fk_base.specs.declared.code.Code.TheVariants as code;
+ghost use Rattle.std.specs.Prelude.{◌≡◌, ◌<◌, ◌^◌, ◌-◌, ◌+◌, true, false, is_some, if◌then◌else◌, Option, None, Some, IfOk, OnOk};
 ghost use Rattle.fk_print.specs.declared.op.Op.TheVariants as op;
 ghost use Rattle.fk_queue.specs.Lanes.{is_session};
 ghost use Rattle.fk_queue.specs.Posts.{post_of};
 ghost use Rattle.fk_queue.specs.declared.lane.Lane.TheVariants as lane;
 ghost use Rattle.fk_store.specs.Meaning as records;
 ghost use Rattle.fk_tree.specs.Ask.{path_asked};
-ghost use Rattle.fk_user.specs.Meaning as store;
 ghost use Rattle.fk_user.specs.Meaning.{called};
 ghost use Rattle.fk_user.specs.Stored.{store_of};
 ghost use Rattle.fk_watch.specs.Meaning.{Watches};

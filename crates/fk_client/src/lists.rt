@@ -1,6 +1,6 @@
 //! What a client finds in its lists.
 
-ghost use Rattle.std.specs.Prelude.{◌≡◌, ◌≤◌, ◌<◌, ◌+◌, ℕ, length, Some, None, option_copied, option_map, OnOk, OnSome};
+ghost use Rattle.std.specs.Prelude.{◌≡◌, ◌≤◌, ◌<◌, ◌+◌, length, Some, None, option_copied, option_map, OnOk, OnSome};
 ghost use Rattle.fk_spec.specs.Client.{all_go_on, contains, first_held, without, with_held, with_told};
 ghost use Rattle.fk_spec.specs.Plan.{ask_of, asks_of, nth};
 ghost use Rattle.fk_client.specs.Known.{by_outcome, place_of};

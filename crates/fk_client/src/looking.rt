@@ -1,6 +1,6 @@
 //! A client looks before it prints.
 
-ghost use Rattle.std.specs.Prelude.{◌≡◌, ◌++◌, ◌∷◌, [], ◌+◌, true, is_some, Option, Some, IfOk, OnOk};
+ghost use Rattle.std.specs.Prelude.{◌≡◌, ◌∷◌, [], ◌+◌, true, Option, Some, IfOk, OnOk};
 ghost use Rattle.fk_queue.specs.Meaning as queues;
 ghost use Rattle.fk_store.specs.Meaning as records;
 ghost use Rattle.fk_user.specs.Meaning.{called};

@@ -1,14 +1,14 @@
 //! The replies of a client.
 
-ghost use Rattle.std.specs.Prelude.{◌≡◌, ◌+◌, ◌<◌, ◌++◌, ◌∷◌, [], ℕ, Some, None, MatchOption, option_copied, option_map, IfOk, OnOk};
+ghost use Rattle.std.specs.Prelude.{◌≡◌, ◌+◌, ◌<◌, ◌++◌, [], Some, None, option_copied, option_map, IfOk, OnOk};
 ghost use Rattle.fk_print.specs.declared.line.Line.TheVariants as line;
 ghost use Rattle.fk_tree.specs.Apply.{part_replies, part_reply_of};
-ghost use Rattle.fk_spec.specs.Plan.{ask_of, asks_of, nth, want_of};
+ghost use Rattle.fk_spec.specs.Plan.{ask_of, asks_of, want_of};
 ghost use Rattle.fk_spec.specs.Client.{ready_first, without_ready};
 ghost use Rattle.fk_spec.specs.Replies.{reply_line, reply_lines, shown_reply, verb_asked};
 ghost use Rattle.fk_spec.specs.Shown.{seen_lines};
 ghost use Rattle.fk_client.specs.Known.{by_outcome, is_first_ready};
-ghost use Rattle.fk_client.specs.Shown.{reply_told, shown_commit, shown_done, shown_outcome, wording_of};
+ghost use Rattle.fk_client.specs.Shown.{reply_told, shown_commit, shown_outcome, wording_of};
 
 use crate::lists::command_at;
 use crate::printing::print;

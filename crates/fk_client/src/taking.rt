@@ -1,6 +1,6 @@
 //! A client takes the message at the head of its inbox.
 
-ghost use Rattle.std.specs.Prelude.{◌≡◌, [], true, if◌then◌else◌, is_some, None, Option, Some, IfOk, OnOk};
+ghost use Rattle.std.specs.Prelude.{◌≡◌, [], true, if◌then◌else◌, is_some, None, Some, IfOk, OnOk};
 ghost use Rattle.fk_queue.specs.Lanes.{is_session};
 ghost use Rattle.fk_queue.specs.Letters.{head_bytes, head_number};
 ghost use Rattle.fk_queue.specs.Meaning.{has_lane};
@@ -12,7 +12,6 @@ ghost use Rattle.fk_queue.specs.Meaning as queues;
 ghost use Rattle.fk_user.specs.Meaning as store;
 ghost use Rattle.fk_watch.specs.Meaning.{Watches};
 ghost use Rattle.fk_wire.specs.declared.message.Tell.{Tell};
-ghost use Rattle.fk_wire.specs.declared.message.Tell.TheVariants as tell;
 ghost use Rattle.fk_spec.specs.Client.{contains, evicted, notified, settle_with, take_op, without_reading};
 ghost use Rattle.fk_spec.specs.Replies.{expired_lines, notice_of};
 ghost use Rattle.fk_client.specs.Known.{by_outcome};

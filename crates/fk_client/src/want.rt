@@ -1,9 +1,8 @@
 //! What a command wants.
 
-ghost use Rattle.std.specs.Prelude.{◌≡◌, ◌++◌, if◌then◌else◌, true, Some, None, option_map, not, IfOk};
+ghost use Rattle.std.specs.Prelude.{◌≡◌, ◌++◌, if◌then◌else◌, true, Some, None, option_map, IfOk};
 ghost use Rattle.fk_spec.specs.Client.{is_close, is_write};
-ghost use Rattle.fk_spec.specs.Plan.{ask_of, parts_of, part_of, path_limit, path_within, verb_of, waits, want_of};
-ghost use Rattle.fk_client.specs.Meaning.{asks_read, is_read};
+ghost use Rattle.fk_spec.specs.Plan.{ask_of, parts_of, part_of, path_within, verb_of, waits, want_of};
 ghost use Rattle.fk_client.specs.Wanted.{want_as};
 
 use fk_base::{Bytes, NoMemory, Path, PathFault, Text};
