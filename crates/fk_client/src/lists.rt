@@ -13,7 +13,8 @@ use fk_script::Command;
 /// The command after this many.
 #[tactic(auto, using(crate::proofs::Asking::item_within, crate::proofs::Asking::item_past))]
 pub fn command_after(commands: &[Command], count: u32) -> Option<&Command>
-    ensures command { option_map ask_of (option_copied result) ≡ nth (asks_of commands.now) (count + 1) }
+    ensures command { option_map ask_of (option_copied result)
+        ≡ nth (asks_of commands.now) (count + 1) }
     ensures within { OnSome result (count < length commands.now) }
 {
     let place = count as usize;
