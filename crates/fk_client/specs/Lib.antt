@@ -1,3 +1,4 @@
+pub mod Acting
 pub mod Answering
 pub mod Beginning
 pub mod Fit
@@ -11,5 +12,6 @@ pub mod Services
 pub mod Shown
 pub mod Sighting
 pub mod Standing
+pub mod Steps
 pub mod Told
 pub mod Wanted

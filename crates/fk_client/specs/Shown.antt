@@ -1,5 +1,5 @@
 -- What a client prints with its operation, and what it has come to after it, by the rules of clients.
-use Rattle.std.specs.Prelude.{ℕ, List, ◌++◌, Option, Some, None}
+use Rattle.std.specs.Prelude.{ℕ, ◌+◌, List, [], ◌∷◌, ◌++◌, Option, Some, None}
 use Rattle.fk_base.specs.Path.{PathNames}
 use Rattle.fk_tree.specs.Apply.{part_replies}
 use Rattle.fk_tree.specs.declared.applied.Made.{Made}
@@ -15,9 +15,9 @@ use Rattle.fk_queue.specs.Meaning as post
 use Rattle.fk_user.specs.Meaning as user
 use Rattle.fk_watch.specs.Meaning.{Watches}
 use Rattle.fk_wire.specs.declared.message.Tell.{Tell}
-use Rattle.fk_spec.specs.Client.{Client, acted, flushed, ready_first}
+use Rattle.fk_spec.specs.Client.{Client, Reading, acted, flushed, ready_first}
 use Rattle.fk_spec.specs.Plan.{Ask, Want, Unfit, Writes, Reads, nth}
-use Rattle.fk_spec.specs.Replies.{Wording, own_lines, reply_lines, shown_as, shown_reply}
+use Rattle.fk_spec.specs.Replies.{Wording, line_for, own_lines, read_line, reply_lines, shown_as, shown_reply}
 use Rattle.fk_spec.specs.Shown.{seen_lines}
 use Rattle.fk_spec.specs.Sight.{Sight}
 use Rattle.fk_client.specs.Known.{by_outcome, known}
@@ -64,11 +64,23 @@ shown_outcome a o = shown_as (shown_kept a o) (known o)
 abbrev pub wording_of : ℕ → List Ask → Wording Unanswered
 wording_of session asks = record { session = session; asks = asks; command = λ s. s.command; shows = λ s. shown_outcome (nth asks s.command) s.outcome }
 
+-- how a client words its replies
+abbrev pub wording : Meaning → Wording Unanswered
+wording m = wording_of m.session m.asks
+
 -- ---- all lines
+
+-- the line of its next command, which shows this
+abbrev pub next_lines : Meaning → Shown → List Line
+next_lines m x = line_for m.session m.asks (m.client.begun + 1) x ∷ []
+
+-- the line of its next command, a read that came to this
+abbrev pub read_lines : Meaning → Reading → List Line
+read_lines m r = read_line m.session m.asks m.seen (m.client.begun + 1) r ∷ []
 
 -- what an operation prints before what is ready; `s` is what it reads of its services
 abbrev pub lines_in : Sight → Op → Meaning → List Line
-lines_in s o m = own_lines (wording_of m.session m.asks) (sight_in m s) m.client o
+lines_in s o m = own_lines (wording m) (sight_in m s) m.client o
 
 -- it holds this once it printed these lines, whose numbers it has seen
 abbrev pub seeing : List Line → Client Unanswered → Meaning → Meaning
@@ -83,7 +95,7 @@ made_by q w u told o m = made_in (sight_by q w u told m) told o m
 
 -- the replies that are ready
 abbrev pub ready_lines : Meaning → List Line
-ready_lines m = reply_lines (wording_of m.session m.asks) (ready_first by_outcome m.client.sent)
+ready_lines m = reply_lines (wording m) (ready_first by_outcome m.client.sent)
 
 -- a client after it printed them
 abbrev pub printed : Meaning → Meaning

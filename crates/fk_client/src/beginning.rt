@@ -1,31 +1,29 @@
 //! A client begins its next command.
 
-ghost use Rattle.std.specs.Prelude.{◌≡◌, ◌<◌, ◌^◌, ◌-◌, ◌+◌, ◌∷◌, ◌++◌, [], true, false, is_some, if◌then◌else◌, Option, None, Some, IfOk, OnOk};
-ghost use Rattle.fk_base.specs.declared.code.Code.TheVariants as code;
+ghost use Rattle.std.specs.Prelude.{◌≡◌, ◌<◌, ◌^◌, ◌-◌, ◌+◌, true, false, is_some, if◌then◌else◌, Option, None, Some, IfOk, OnOk};
 ghost use Rattle.fk_print.specs.declared.op.Op.TheVariants as op;
 ghost use Rattle.fk_queue.specs.Lanes.{is_session};
+ghost use Rattle.fk_queue.specs.Meaning as post;
 ghost use Rattle.fk_queue.specs.Posts.{post_of};
 ghost use Rattle.fk_queue.specs.declared.lane.Lane.TheVariants as lane;
-ghost use Rattle.fk_store.specs.Meaning as records;
+ghost use Rattle.fk_store.specs.Meaning as table;
 ghost use Rattle.fk_tree.specs.Ask.{path_asked};
-ghost use Rattle.fk_user.specs.Meaning as store;
 ghost use Rattle.fk_user.specs.Meaning.{called};
 ghost use Rattle.fk_user.specs.Stored.{store_of};
 ghost use Rattle.fk_watch.specs.Meaning.{Watches};
 ghost use Rattle.fk_wire.specs.Limits.{IsLimitedRequest, IsNumber};
 ghost use Rattle.fk_wire.specs.declared.message.Tell.{Tell};
-ghost use Rattle.fk_queue.specs.Meaning as queues;
 ghost use Rattle.fk_spec.specs.Client.{begin_asked, begin_op, is_unfit, joined, local_result};
-ghost use Rattle.fk_spec.specs.Sight.{Sight};
 ghost use Rattle.fk_client.specs.Wanted.{want_as};
+ghost use Rattle.fk_client.specs.Acting.{GoesOn, KeepsTable, KeepsWatches, Prints};
 ghost use Rattle.fk_client.specs.Beginning.{IsNextRead, IsNextWrite, Wants, posted, read_at};
 ghost use Rattle.fk_client.specs.Fit.{IsLimitedAsk};
 ghost use Rattle.fk_client.specs.Idle.{waits_next};
 ghost use Rattle.fk_client.specs.Known.{by_outcome, kept_as, reading_in, unanswered};
 ghost use Rattle.fk_client.specs.Meaning.{holding, next_ask};
 ghost use Rattle.fk_client.specs.Operation.{failed_if, or_failed};
-ghost use Rattle.fk_client.specs.Services.{post_by, table_by, user_by, watches_by};
-ghost use Rattle.fk_client.specs.Shown.{lines_in, made_by, made_in};
+ghost use Rattle.fk_client.specs.Services.{post_by, user_by};
+ghost use Rattle.fk_client.specs.Shown.{made_by};
 ghost use Rattle.fk_client.specs.Sighting.{sight_by};
 ghost use Rattle.fk_client.specs.Standing.{client_of};
 
@@ -76,7 +74,9 @@ fn push_request(
     requires room { ((post_of post.old).lanes (lane.Session session)).given < 2 ^ 63 - 1 }
     requires seen { IsNumber seen }
     requires request { IsLimitedRequest request }
-    ensures number { IfOk result (λ o. o ≡ (if (post_of post.old).armed then None else Some (((post_of post.old).lanes (lane.Session session)).given + 1))) }
+    ensures number { let q = post_of post.old in
+        let k = (q.lanes (lane.Session session)).given + 1 in
+        IfOk result (λ o. o ≡ (if q.armed then None else Some k)) }
     ensures post { OnOk result (post_of post.new ≡ posted session seen request (post_of post.old)) }
 {
     let message = Sent { request, seen };
@@ -127,15 +127,23 @@ impl Client {
         requires begins { waits_next (client_of self.old) (next_ask (client_of self.old)) ≡ false }
         requires free { self.old.reading ≡ None }
         requires session { is_session (post_of post.old).sessions self.old.session ≡ true }
-        requires room { ((post_of post.old).lanes (lane.Session self.old.session)).given < 2 ^ 63 - 1 }
+        requires room { let requests = (post_of post.old).lanes (lane.Session self.old.session) in
+            requests.given < 2 ^ 63 - 1 }
         requires seen { IsNumber self.old.seen }
         requires request { IsLimitedAsk (next_ask (client_of self.old)) }
-        ensures op { (t : records.Meaning) (w : Watches) (told : Option Tell) → IfOk result (λ r. r.0 ≡ or_failed t (post_of post.old) w (store_of user.old) (begin_asked by_outcome (sight_by (post_of post.old) w (store_of user.old) told (client_of self.old)) (client_of self.old).client (next_ask (client_of self.old)))) }
-        ensures lines { (s : Sight) → IfOk result (λ r. r.1 ≡ lines_in s r.0 (client_of self.old)) }
-        ensures table { (t : records.Meaning) → IfOk result (λ r. t ≡ table_by r.0 t) }
-        ensures watches { (w : Watches) → IfOk result (λ r. w ≡ watches_by (client_of self.old) r.0 w) }
-        ensures client { (w : Watches) (told : Option Tell) → IfOk result (λ r. client_of self.new ≡ made_by (post_of post.old) w (store_of user.old) told r.0 (client_of self.old)) }
-        ensures post { IfOk result (λ r. post_of post.new ≡ post_by (client_of self.old) r.0 (post_of post.old)) }
+        ensures op { let m = client_of self.old in
+            let q = post_of post.old in
+            let u = store_of user.old in
+            (t : table.Meaning) (w : Watches) (told : Option Tell)
+            → IfOk result (λ r. r.0 ≡ or_failed t q w u
+            (begin_asked by_outcome (sight_by q w u told m) m.client (next_ask m))) }
+        ensures lines { Prints result (client_of self.old) }
+        ensures table { KeepsTable result }
+        ensures watches { KeepsWatches result (client_of self.old) }
+        ensures client { (w : Watches) (told : Option Tell) → IfOk result (λ r. client_of self.new
+            ≡ made_by (post_of post.old) w (store_of user.old) told r.0 (client_of self.old)) }
+        ensures post { IfOk result (λ r. post_of post.new
+            ≡ post_by (client_of self.old) r.0 (post_of post.old)) }
         ensures user { IfOk result (λ r. store_of user.new ≡ user_by r.0 (store_of user.old)) }
     {
         let Some(command) = self.next() else {
@@ -156,15 +164,23 @@ impl Client {
         requires wants { Wants (next_ask (client_of self.old)) (want_as want) }
         requires free { self.old.reading ≡ None }
         requires session { is_session (post_of post.old).sessions self.old.session ≡ true }
-        requires room { ((post_of post.old).lanes (lane.Session self.old.session)).given < 2 ^ 63 - 1 }
+        requires room { let requests = (post_of post.old).lanes (lane.Session self.old.session) in
+            requests.given < 2 ^ 63 - 1 }
         requires seen { IsNumber self.old.seen }
         requires request { IsLimitedAsk (next_ask (client_of self.old)) }
-        ensures op { (t : records.Meaning) (w : Watches) (told : Option Tell) → IfOk result (λ r. r.0 ≡ or_failed t (post_of post.old) w (store_of user.old) (begin_op (sight_by (post_of post.old) w (store_of user.old) told (client_of self.old)) (self.old.begun + 1) self.old.closed (want_as want))) }
-        ensures lines { (s : Sight) → IfOk result (λ r. r.1 ≡ lines_in s r.0 (client_of self.old)) }
-        ensures table { (t : records.Meaning) → IfOk result (λ r. t ≡ table_by r.0 t) }
-        ensures watches { (w : Watches) → IfOk result (λ r. w ≡ watches_by (client_of self.old) r.0 w) }
-        ensures client { (w : Watches) (told : Option Tell) → IfOk result (λ r. client_of self.new ≡ made_by (post_of post.old) w (store_of user.old) told r.0 (client_of self.old)) }
-        ensures post { IfOk result (λ r. post_of post.new ≡ post_by (client_of self.old) r.0 (post_of post.old)) }
+        ensures op { let m = client_of self.old in
+            let q = post_of post.old in
+            let u = store_of user.old in
+            (t : table.Meaning) (w : Watches) (told : Option Tell)
+            → IfOk result (λ r. r.0 ≡ or_failed t q w u (begin_op (sight_by q w u told m)
+            (self.old.begun + 1) self.old.closed (want_as want))) }
+        ensures lines { Prints result (client_of self.old) }
+        ensures table { KeepsTable result }
+        ensures watches { KeepsWatches result (client_of self.old) }
+        ensures client { (w : Watches) (told : Option Tell) → IfOk result (λ r. client_of self.new
+            ≡ made_by (post_of post.old) w (store_of user.old) told r.0 (client_of self.old)) }
+        ensures post { IfOk result (λ r. post_of post.new
+            ≡ post_by (client_of self.old) r.0 (post_of post.old)) }
         ensures user { IfOk result (λ r. store_of user.new ≡ user_by r.0 (store_of user.old)) }
     {
         match want {
@@ -189,7 +205,10 @@ impl Client {
     fn join(&mut self, k: u64, outcome: Outcome) -> Result<(), NoMemory>
         requires next { is_some (next_ask (client_of self.old)) ≡ true }
         requires free { self.old.reading ≡ None }
-        ensures { OnOk result (client_of self.new ≡ holding (joined (self.old.begun + 1) (unanswered (self.old.begun + 1) k outcome) (client_of self.old).client) (client_of self.old)) }
+        ensures { let m = client_of self.old in
+            let command = self.old.begun + 1 in
+            OnOk result (client_of self.new
+            ≡ holding (joined command (unanswered command k outcome) m.client) m) }
     {
         let command = self.place();
         self.sent.push(Unanswered {
@@ -208,10 +227,10 @@ impl Client {
         requires unfit { is_unfit (next_ask (client_of self.old)) ≡ unfit }
         requires free { self.old.reading ≡ None }
         ensures op { IfOk result (λ r. r.0 ≡ op.Local self.old.session (self.old.begun + 1)) }
-        ensures lines { (s : Sight) → IfOk result (λ r. r.1 ≡ lines_in s r.0 (client_of self.old)) }
-        ensures table { (t : records.Meaning) → IfOk result (λ r. t ≡ table_by r.0 t) }
-        ensures watches { (w : Watches) → IfOk result (λ r. w ≡ watches_by (client_of self.old) r.0 w) }
-        ensures client { (s : Sight) (told : Option Tell) → IfOk result (λ r. client_of self.new ≡ made_in s told r.0 (client_of self.old)) }
+        ensures lines { Prints result (client_of self.old) }
+        ensures table { KeepsTable result }
+        ensures watches { KeepsWatches result (client_of self.old) }
+        ensures client { GoesOn result (client_of self.old) (client_of self.new) }
     {
         let session = self.session;
         let command = self.place();
@@ -225,15 +244,20 @@ impl Client {
         requires next { IsNextWrite (next_ask (client_of self.old)) request }
         requires free { self.old.reading ≡ None }
         requires session { is_session (post_of post.old).sessions self.old.session ≡ true }
-        requires room { ((post_of post.old).lanes (lane.Session self.old.session)).given < 2 ^ 63 - 1 }
+        requires room { let requests = (post_of post.old).lanes (lane.Session self.old.session) in
+            requests.given < 2 ^ 63 - 1 }
         requires seen { IsNumber self.old.seen }
         requires request { IsLimitedRequest request }
-        ensures op { IfOk result (λ r. r.0 ≡ failed_if (post_of post.old).armed (op.Send self.old.session (self.old.begun + 1) (((post_of post.old).lanes (lane.Session self.old.session)).given + 1))) }
-        ensures lines { (s : Sight) → IfOk result (λ r. r.1 ≡ lines_in s r.0 (client_of self.old)) }
-        ensures table { (t : records.Meaning) → IfOk result (λ r. t ≡ table_by r.0 t) }
-        ensures watches { (w : Watches) → IfOk result (λ r. w ≡ watches_by (client_of self.old) r.0 w) }
-        ensures client { (s : Sight) (told : Option Tell) → IfOk result (λ r. client_of self.new ≡ made_in s told r.0 (client_of self.old)) }
-        ensures post { IfOk result (λ r. post_of post.new ≡ post_by (client_of self.old) r.0 (post_of post.old)) }
+        ensures op { let q = post_of post.old in
+            let k = (q.lanes (lane.Session self.old.session)).given + 1 in
+            IfOk result (λ r. r.0
+            ≡ failed_if q.armed (op.Send self.old.session (self.old.begun + 1) k)) }
+        ensures lines { Prints result (client_of self.old) }
+        ensures table { KeepsTable result }
+        ensures watches { KeepsWatches result (client_of self.old) }
+        ensures client { GoesOn result (client_of self.old) (client_of self.new) }
+        ensures post { IfOk result (λ r. post_of post.new
+            ≡ post_by (client_of self.old) r.0 (post_of post.old)) }
     {
         let session = self.session;
         let command = self.place();
@@ -261,11 +285,16 @@ impl Client {
     fn read(&mut self, user: &mut UserStore, path: &Path) -> Result<(Op, Lines), NoMemory>
         requires next { IsNextRead (next_ask (client_of self.old)) path.now }
         requires free { self.old.reading ≡ None }
-        ensures op { IfOk result (λ r. r.0 ≡ failed_if (store_of user.old).armed (op.Read self.old.session (self.old.begun + 1) ((store_of user.old).records path.now).stamp)) }
-        ensures lines { (s : Sight) → IfOk result (λ r. r.1 ≡ lines_in s r.0 (client_of self.old)) }
-        ensures table { (t : records.Meaning) → IfOk result (λ r. t ≡ table_by r.0 t) }
-        ensures watches { (w : Watches) → IfOk result (λ r. w ≡ watches_by (client_of self.old) r.0 w) }
-        ensures client { (q : queues.Meaning) (w : Watches) (told : Option Tell) → IfOk result (λ r. client_of self.new ≡ made_by q w (store_of user.old) told r.0 (client_of self.old)) }
+        ensures op { let u = store_of user.old in
+            let stamp = (u.records path.now).stamp in
+            IfOk result (λ r. r.0
+            ≡ failed_if u.armed (op.Read self.old.session (self.old.begun + 1) stamp)) }
+        ensures lines { Prints result (client_of self.old) }
+        ensures table { KeepsTable result }
+        ensures watches { KeepsWatches result (client_of self.old) }
+        ensures client { let u = store_of user.old in
+            (q : post.Meaning) (w : Watches) (told : Option Tell)
+            → IfOk result (λ r. client_of self.new ≡ made_by q w u told r.0 (client_of self.old)) }
         ensures user { IfOk result (λ r. store_of user.new ≡ user_by r.0 (store_of user.old)) }
     {
         let session = self.session;

@@ -1,5 +1,5 @@
-//! The client of a session: a machine of one operation per step. It sends its writes, reads the storage, waits
-//! until what it prints may be seen, and prints. The rules stand in `specs/`.
+//! The client of a session: a machine of one operation per step. It sends its writes, reads the
+//! storage, waits until what it prints may be seen, and prints. The rules stand in `specs/`.
 #![tactic(auto)]
 
 mod beginning;

@@ -1,6 +1,6 @@
 //! What a client finds in its lists.
 
-ghost use Rattle.std.specs.Prelude.{◌≡◌, ◌≤◌, ◌<◌, ◌+◌, ℕ, length, Some, None, option_copied, option_map, OnOk, OnSome};
+ghost use Rattle.std.specs.Prelude.{◌≡◌, ◌≤◌, ◌<◌, ◌+◌, length, Some, None, option_copied, option_map, OnOk, OnSome};
 ghost use Rattle.fk_spec.specs.Client.{all_go_on, contains, first_held, without, with_held, with_told};
 ghost use Rattle.fk_spec.specs.Plan.{ask_of, asks_of, nth};
 ghost use Rattle.fk_client.specs.Known.{by_outcome, place_of};
@@ -13,7 +13,8 @@ use fk_script::Command;
 /// The command after this many.
 #[tactic(auto, using(crate::proofs::Asking::item_within, crate::proofs::Asking::item_past))]
 pub fn command_after(commands: &[Command], count: u32) -> Option<&Command>
-    ensures command { option_map ask_of (option_copied result) ≡ nth (asks_of commands.now) (count + 1) }
+    ensures command { option_map ask_of (option_copied result)
+        ≡ nth (asks_of commands.now) (count + 1) }
     ensures within { OnSome result (count < length commands.now) }
 {
     let place = count as usize;

@@ -1,23 +1,22 @@
 //! A client looks before it prints.
 
-ghost use Rattle.std.specs.Prelude.{◌≡◌, ◌++◌, ◌∷◌, [], ◌+◌, true, is_some, Option, Some, IfOk, OnOk};
-ghost use Rattle.fk_queue.specs.Meaning as queues;
-ghost use Rattle.fk_store.specs.Meaning as records;
+ghost use Rattle.std.specs.Prelude.{◌≡◌, [], true, Option, Some, IfOk};
+ghost use Rattle.fk_queue.specs.Meaning as post;
 ghost use Rattle.fk_user.specs.Meaning.{called};
 ghost use Rattle.fk_user.specs.Stored.{store_of};
 ghost use Rattle.fk_wire.specs.declared.message.Tell.{Tell};
 ghost use Rattle.fk_watch.specs.Meaning.{Watches};
-ghost use Rattle.fk_spec.specs.Plan.{asks_of, nth};
+ghost use Rattle.fk_spec.specs.Plan.{nth};
 ghost use Rattle.fk_spec.specs.Client as rules;
 ghost use Rattle.fk_spec.specs.Client.{answered, close_if, is_close, look_op, looked, looked_for, registers, target_of, target_sent};
-ghost use Rattle.fk_spec.specs.Replies.{first_line, line_for, looked_lines, read_line};
-ghost use Rattle.fk_spec.specs.Sight.{Sight};
+ghost use Rattle.fk_spec.specs.Replies.{first_line, looked_lines};
+ghost use Rattle.fk_client.specs.Acting.{GoesOn, KeepsPost, KeepsTable, KeepsWatches, Prints};
 ghost use Rattle.fk_client.specs.Answering.{looked_at, sets_watch, shown_found};
 ghost use Rattle.fk_client.specs.Known.{by_outcome, reading_as, target_as, target_in};
 ghost use Rattle.fk_client.specs.Meaning.{asks_read, holding, next_ask};
 ghost use Rattle.fk_client.specs.Operation.{failed_if};
-ghost use Rattle.fk_client.specs.Services.{post_by, table_by, user_by, watches_by};
-ghost use Rattle.fk_client.specs.Shown.{lines_in, made_in, seeing, wording_of};
+ghost use Rattle.fk_client.specs.Services.{user_by};
+ghost use Rattle.fk_client.specs.Shown.{next_lines, read_lines, seeing, wording};
 ghost use Rattle.fk_client.specs.Sighting.{sight_by};
 ghost use Rattle.fk_client.specs.Standing.{client_of};
 
@@ -133,7 +132,8 @@ impl Client {
     /// What it looks for, where it does.
     #[tactic(auto, unfolding(crate::specs::Standing::client_of), using(crate::proofs::Asking::read_next))]
     pub(crate) fn target(&self) -> Option<Target>
-        ensures { target_in result ≡ target_of by_outcome (client_of self.now).seen (client_of self.now).client (client_of self.now).client.reading }
+        ensures { let m = client_of self.now in
+            target_in result ≡ target_of by_outcome m.seen m.client m.client.reading }
     {
         let sent = target_sent(self.sent.as_slice());
         match &self.reading {
@@ -157,13 +157,16 @@ impl Client {
         user: &mut UserStore,
         target: Target,
     ) -> Result<(Op, Lines), NoMemory>
-        ensures op { (q : queues.Meaning) (w : Watches) (told : Option Tell) → IfOk result (λ r. r.0 ≡ failed_if (store_of user.old).armed (look_op (sight_by q w (store_of user.old) told (client_of self.old)) self.old.held.items (target_as target))) }
-        ensures lines { (s : Sight) → IfOk result (λ r. r.1 ≡ lines_in s r.0 (client_of self.old)) }
-        ensures client { (s : Sight) (told : Option Tell) → IfOk result (λ r. client_of self.new ≡ made_in s told r.0 (client_of self.old)) }
+        ensures op { let u = store_of user.old in
+            (q : post.Meaning) (w : Watches) (told : Option Tell)
+            → IfOk result (λ r. r.0 ≡ failed_if u.armed (look_op
+            (sight_by q w u told (client_of self.old)) self.old.held.items (target_as target))) }
+        ensures lines { Prints result (client_of self.old) }
+        ensures client { GoesOn result (client_of self.old) (client_of self.new) }
         ensures user { IfOk result (λ r. store_of user.new ≡ user_by r.0 (store_of user.old)) }
-        ensures table { (t : records.Meaning) → IfOk result (λ r. t ≡ table_by r.0 t) }
-        ensures post { (q : queues.Meaning) → IfOk result (λ r. q ≡ post_by (client_of self.old) r.0 q) }
-        ensures watches { (w : Watches) → IfOk result (λ r. w ≡ watches_by (client_of self.old) r.0 w) }
+        ensures table { KeepsTable result }
+        ensures post { KeepsPost result (client_of self.old) }
+        ensures watches { KeepsWatches result (client_of self.old) }
     {
         let session = self.session;
         let command = target.command;
@@ -203,8 +206,11 @@ impl Client {
     // the look was ok
     #[tactic(auto, unfolding(crate::specs::Standing::client_of))]
     fn looked(&mut self) -> Result<Lines, NoMemory>
-        ensures lines { IfOk result (λ ls. ls ≡ looked_lines (wording_of self.old.session (asks_of self.old.commands)) self.old.seen (client_of self.old).client (client_of self.old).client.reading) }
-        ensures client { OnOk result (client_of self.new ≡ seeing (looked_lines (wording_of self.old.session (asks_of self.old.commands)) self.old.seen (client_of self.old).client (client_of self.old).client.reading) (looked by_outcome (asks_of self.old.commands) (client_of self.old).client.reading (client_of self.old).client) (client_of self.old)) }
+        ensures lines { let m = client_of self.old in
+            IfOk result (λ ls. ls ≡ looked_lines (wording m) m.seen m.client m.client.reading) }
+        ensures client { let m = client_of self.old in
+            IfOk result (λ ls. client_of self.new
+            ≡ seeing ls (looked by_outcome m.asks m.client.reading m.client) m) }
     {
         match self.reading.take() {
             None => self.reply(),
@@ -215,8 +221,11 @@ impl Client {
     // the first reply is printed, and leaves the list
     #[tactic(auto, unfolding(crate::specs::Standing::client_of))]
     fn reply(&mut self) -> Result<Lines, NoMemory>
-        ensures lines { IfOk result (λ ls. ls ≡ first_line (wording_of self.old.session (asks_of self.old.commands)) self.old.sent.items) }
-        ensures client { OnOk result (client_of self.new ≡ seeing (first_line (wording_of self.old.session (asks_of self.old.commands)) self.old.sent.items) (looked_for by_outcome (asks_of self.old.commands) self.old.sent.items (client_of self.old).client) (client_of self.old)) }
+        ensures lines { let m = client_of self.old in
+            IfOk result (λ ls. ls ≡ first_line (wording m) m.client.sent) }
+        ensures client { let m = client_of self.old in
+            IfOk result (λ ls. client_of self.new
+            ≡ seeing ls (looked_for by_outcome m.asks m.client.sent m.client) m) }
     {
         let mut lines = Lines::new(self.alloc);
         if self.sent.is_empty() {
@@ -232,7 +241,8 @@ impl Client {
     // an answered close makes the session known as closed, and its watches no longer held
     #[tactic(auto, unfolding(crate::specs::Standing::client_of))]
     fn close_after(&mut self, command: u32)
-        ensures { client_of self.new ≡ holding (close_if (is_close (nth (asks_of self.old.commands) command)) (client_of self.old).client) (client_of self.old) }
+        ensures { let m = client_of self.old in
+            client_of self.new ≡ holding (close_if (is_close (nth m.asks command)) m.client) m }
     {
         let closes = match command_at(self.commands.as_slice(), command) {
             None => false,
@@ -248,8 +258,13 @@ impl Client {
     #[tactic(auto, unfolding(crate::specs::Standing::client_of), using(crate::proofs::Asking::read_next, crate::proofs::Finding::sets_is))]
     fn read_on(&mut self, reading: Reading) -> Result<Lines, NoMemory>
         requires reads { asks_read (next_ask (client_of self.old)) ≡ true }
-        ensures lines { IfOk result (λ ls. ls ≡ looked_lines (wording_of self.old.session (asks_of self.old.commands)) self.old.seen (client_of self.old).client (Some (reading_as reading))) }
-        ensures client { OnOk result (client_of self.new ≡ seeing (looked_lines (wording_of self.old.session (asks_of self.old.commands)) self.old.seen (client_of self.old).client (Some (reading_as reading))) (rules.looked_at (registers (next_ask (client_of self.old)) reading.node) (reading_as reading) (client_of self.old).client) (client_of self.old)) }
+        ensures lines { let m = client_of self.old in
+            IfOk result (λ ls. ls
+            ≡ looked_lines (wording m) m.seen m.client (Some (reading_as reading))) }
+        ensures client { let m = client_of self.old in
+            let sets = registers (next_ask m) reading.node in
+            IfOk result (λ ls. client_of self.new
+            ≡ seeing ls (rules.looked_at sets (reading_as reading) m.client) m) }
     {
         let Some(command) = self.next() else {
             unreachable!();
@@ -269,8 +284,10 @@ impl Client {
     #[tactic(auto, unfolding(crate::specs::Standing::client_of), using(crate::proofs::Asking::read_next, crate::proofs::Finding::shown_is))]
     pub(crate) fn answer(&mut self, reading: Reading) -> Result<Lines, NoMemory>
         requires reads { asks_read (next_ask (client_of self.old)) ≡ true }
-        ensures lines { IfOk result (λ ls. ls ≡ read_line self.old.session (asks_of self.old.commands) self.old.seen (self.old.begun + 1) (reading_as reading) ∷ []) }
-        ensures client { OnOk result (client_of self.new ≡ seeing (read_line self.old.session (asks_of self.old.commands) self.old.seen (self.old.begun + 1) (reading_as reading) ∷ []) (answered (client_of self.old).client) (client_of self.old)) }
+        ensures lines { let m = client_of self.old in
+            IfOk result (λ ls. ls ≡ read_lines m (reading_as reading)) }
+        ensures client { let m = client_of self.old in
+            IfOk result (λ ls. client_of self.new ≡ seeing ls (answered m.client) m) }
     {
         let Some(command) = self.next() else {
             unreachable!();
@@ -284,8 +301,9 @@ impl Client {
     #[tactic(auto, unfolding(crate::specs::Standing::client_of), using(crate::proofs::Asking::read_next))]
     pub(crate) fn end(&mut self, shown: Shown) -> Result<Lines, NoMemory>
         requires reads { asks_read (next_ask (client_of self.old)) ≡ true }
-        ensures lines { IfOk result (λ ls. ls ≡ line_for self.old.session (asks_of self.old.commands) (self.old.begun + 1) shown ∷ []) }
-        ensures client { OnOk result (client_of self.new ≡ seeing (line_for self.old.session (asks_of self.old.commands) (self.old.begun + 1) shown ∷ []) (answered (client_of self.old).client) (client_of self.old)) }
+        ensures lines { IfOk result (λ ls. ls ≡ next_lines (client_of self.old) shown) }
+        ensures client { let m = client_of self.old in
+            IfOk result (λ ls. client_of self.new ≡ seeing ls (answered m.client) m) }
     {
         let mut lines = Lines::new(self.alloc);
         let place = self.place();

@@ -1,12 +1,10 @@
 //! A client answers a ping.
 
-ghost use Rattle.std.specs.Prelude.{◌≡◌, [], true, is_some, Option, Some, IfOk};
+ghost use Rattle.std.specs.Prelude.{◌≡◌, [], true, is_some, Some, IfOk};
 ghost use Rattle.fk_print.specs.declared.op.Op.TheVariants as op;
-ghost use Rattle.fk_spec.specs.Sight.{Sight};
-ghost use Rattle.fk_wire.specs.declared.message.Tell.{Tell};
+ghost use Rattle.fk_client.specs.Acting.{GoesOn, Prints};
 ghost use Rattle.fk_client.specs.Operation.{failed_if};
 ghost use Rattle.fk_client.specs.Services.{table_by};
-ghost use Rattle.fk_client.specs.Shown.{lines_in, made_in};
 ghost use Rattle.fk_client.specs.Standing.{client_of};
 
 use crate::client::Client;
@@ -24,10 +22,12 @@ impl Client {
     ) -> Result<(Op, Lines), NoMemory>
         requires owed { self.old.owed ≡ Some ping }
         requires session { is_some ((T.meaning table.old).sessions self.old.session) ≡ true }
-        ensures op { IfOk result (λ r. r.0 ≡ failed_if (T.meaning table.old).armed (op.Pong self.old.session ping)) }
-        ensures lines { (s : Sight) → IfOk result (λ r. r.1 ≡ lines_in s r.0 (client_of self.old)) }
-        ensures client { (s : Sight) (told : Option Tell) → IfOk result (λ r. client_of self.new ≡ made_in s told r.0 (client_of self.old)) }
-        ensures table { IfOk result (λ r. T.meaning table.new ≡ table_by r.0 (T.meaning table.old)) }
+        ensures op { let t = T.meaning table.old in
+            IfOk result (λ r. r.0 ≡ failed_if t.armed (op.Pong self.old.session ping)) }
+        ensures lines { Prints result (client_of self.old) }
+        ensures client { GoesOn result (client_of self.old) (client_of self.new) }
+        ensures table { let t = T.meaning table.old in
+            IfOk result (λ r. T.meaning table.new ≡ table_by r.0 t) }
     {
         let session = self.session;
         let writes = [Write::Pong { session, n: ping }];

@@ -1,24 +1,21 @@
 //! A client registers the watch of its read.
 
-ghost use Rattle.std.specs.Prelude.{◌≡◌, ◌<◌, ◌^◌, ◌-◌, ◌+◌, ◌∷◌, [], true, is_some, Option, Some, IfOk, OnOk};
+ghost use Rattle.std.specs.Prelude.{◌≡◌, ◌<◌, ◌^◌, ◌-◌, true, is_some, Option, Some, IfOk};
 ghost use Rattle.fk_print.specs.declared.op.Op.TheVariants as op;
 ghost use Rattle.fk_tree.specs.Ask.{path_asked};
 ghost use Rattle.fk_tree.specs.Watch.{kind_asked};
-ghost use Rattle.fk_queue.specs.Meaning as queues;
-ghost use Rattle.fk_store.specs.Meaning as records;
-ghost use Rattle.fk_user.specs.Meaning as store;
+ghost use Rattle.fk_queue.specs.Meaning as post;
+ghost use Rattle.fk_user.specs.Meaning as user;
 ghost use Rattle.fk_watch.specs.Kept.{watches_of};
 ghost use Rattle.fk_wire.specs.declared.message.Tell.{Tell};
-ghost use Rattle.fk_spec.specs.Plan.{asks_of};
 ghost use Rattle.fk_spec.specs.Client.{answered, keeping, watch_or};
-ghost use Rattle.fk_spec.specs.Replies.{read_line};
-ghost use Rattle.fk_spec.specs.Sight.{Sight};
+ghost use Rattle.fk_client.specs.Acting.{GoesOn, KeepsPost, KeepsTable, KeepsUser, Prints};
 ghost use Rattle.fk_client.specs.Known.{reading_as};
 ghost use Rattle.fk_client.specs.Meaning.{asks_read, next_ask};
 ghost use Rattle.fk_client.specs.Operation.{failed_if};
 ghost use Rattle.fk_client.specs.Registering.{after_registered, query_in, register_for, watch_of};
-ghost use Rattle.fk_client.specs.Services.{post_by, table_by, user_by, watches_by};
-ghost use Rattle.fk_client.specs.Shown.{lines_in, made_in, seeing};
+ghost use Rattle.fk_client.specs.Services.{watches_by};
+ghost use Rattle.fk_client.specs.Shown.{read_lines, seeing};
 ghost use Rattle.fk_client.specs.Sighting.{sight_by};
 ghost use Rattle.fk_client.specs.Standing.{client_of};
 
@@ -66,8 +63,11 @@ fn register(
     number: u64,
 ) -> Result<Registered, NoMemory>
     requires { (watches_of watches.old).given < 2 ^ 63 - 1 }
-    ensures registered { IfOk result (λ r. r ≡ register_for (watches_of watches.old) (watch_of session query.now) number) }
-    ensures watches { IfOk result (λ r. watches_of watches.new ≡ after_registered (watches_of watches.old) (watch_of session query.now) r) }
+    ensures registered { let watch = watch_of session query.now in
+        IfOk result (λ r. r ≡ register_for (watches_of watches.old) watch number) }
+    ensures watches { let watch = watch_of session query.now in
+        IfOk result (λ r. watches_of watches.new
+        ≡ after_registered (watches_of watches.old) watch r) }
 {
     match watches.register(session, path_asked(query), kind_asked(query), number) {
         Register::Done(watch) => Ok(Registered::Set(watch)),
@@ -83,13 +83,18 @@ impl Client {
     pub(crate) fn watch(&mut self, watches: &mut WatchTable) -> Result<(Op, Lines), NoMemory>
         requires reading { is_some self.old.reading ≡ true }
         requires room { (watches_of watches.old).given < 2 ^ 63 - 1 }
-        ensures op { (q : queues.Meaning) (u : store.Meaning) (told : Option Tell) → IfOk result (λ r. r.0 ≡ failed_if (watches_of watches.old).armed (watch_or (sight_by q (watches_of watches.old) u told (client_of self.old)) (client_of self.old).client (client_of self.old).client.reading op.Idle)) }
-        ensures lines { (s : Sight) → IfOk result (λ r. r.1 ≡ lines_in s r.0 (client_of self.old)) }
-        ensures client { (s : Sight) (told : Option Tell) → IfOk result (λ r. client_of self.new ≡ made_in s told r.0 (client_of self.old)) }
-        ensures watches { IfOk result (λ r. watches_of watches.new ≡ watches_by (client_of self.old) r.0 (watches_of watches.old)) }
-        ensures table { (t : records.Meaning) → IfOk result (λ r. t ≡ table_by r.0 t) }
-        ensures post { (q : queues.Meaning) → IfOk result (λ r. q ≡ post_by (client_of self.old) r.0 q) }
-        ensures user { (u : store.Meaning) → IfOk result (λ r. u ≡ user_by r.0 u) }
+        ensures op { let m = client_of self.old in
+            let w = watches_of watches.old in
+            (q : post.Meaning) (u : user.Meaning) (told : Option Tell)
+            → IfOk result (λ r. r.0 ≡ failed_if w.armed
+            (watch_or (sight_by q w u told m) m.client m.client.reading op.Idle)) }
+        ensures lines { Prints result (client_of self.old) }
+        ensures client { GoesOn result (client_of self.old) (client_of self.new) }
+        ensures watches { IfOk result (λ r. watches_of watches.new
+            ≡ watches_by (client_of self.old) r.0 (watches_of watches.old)) }
+        ensures table { KeepsTable result }
+        ensures post { KeepsPost result (client_of self.old) }
+        ensures user { KeepsUser result }
     {
         let session = self.session;
         let command = self.place();
@@ -129,8 +134,11 @@ impl Client {
     #[tactic(auto, unfolding(crate::specs::Standing::client_of))]
     fn registered(&mut self, reading: Reading, watch: u64) -> Result<Lines, NoMemory>
         requires reads { asks_read (next_ask (client_of self.old)) ≡ true }
-        ensures lines { IfOk result (λ ls. ls ≡ read_line self.old.session (asks_of self.old.commands) self.old.seen (self.old.begun + 1) (reading_as reading) ∷ []) }
-        ensures client { OnOk result (client_of self.new ≡ seeing (read_line self.old.session (asks_of self.old.commands) self.old.seen (self.old.begun + 1) (reading_as reading) ∷ []) (answered (keeping watch (client_of self.old).client)) (client_of self.old)) }
+        ensures lines { let m = client_of self.old in
+            IfOk result (λ ls. ls ≡ read_lines m (reading_as reading)) }
+        ensures client { let m = client_of self.old in
+            IfOk result (λ ls. client_of self.new
+            ≡ seeing ls (answered (keeping watch m.client)) m) }
     {
         hold(&mut self.held, watch)?;
         self.answer(reading)

@@ -1,14 +1,14 @@
 //! The replies of a client.
 
-ghost use Rattle.std.specs.Prelude.{◌≡◌, ◌+◌, ◌<◌, ◌++◌, ◌∷◌, [], ℕ, Some, None, MatchOption, option_copied, option_map, IfOk, OnOk};
+ghost use Rattle.std.specs.Prelude.{◌≡◌, ◌+◌, ◌<◌, ◌++◌, [], Some, None, option_copied, option_map, IfOk, OnOk};
 ghost use Rattle.fk_print.specs.declared.line.Line.TheVariants as line;
 ghost use Rattle.fk_tree.specs.Apply.{part_replies, part_reply_of};
-ghost use Rattle.fk_spec.specs.Plan.{ask_of, asks_of, nth, want_of};
+ghost use Rattle.fk_spec.specs.Plan.{ask_of, asks_of, want_of};
 ghost use Rattle.fk_spec.specs.Client.{ready_first, without_ready};
 ghost use Rattle.fk_spec.specs.Replies.{reply_line, reply_lines, shown_reply, verb_asked};
 ghost use Rattle.fk_spec.specs.Shown.{seen_lines};
 ghost use Rattle.fk_client.specs.Known.{by_outcome, is_first_ready};
-ghost use Rattle.fk_client.specs.Shown.{reply_told, shown_commit, shown_done, shown_outcome, wording_of};
+ghost use Rattle.fk_client.specs.Shown.{reply_told, shown_commit, shown_outcome, wording_of};
 
 use crate::lists::command_at;
 use crate::printing::print;
@@ -55,7 +55,8 @@ fn shown_reply(
     made: &Mades,
     request: &Request,
 ) -> Result<Shown, NoMemory>
-    ensures { IfOk result (λ s. s ≡ shown_reply tx (reply_told name.now version made.now request.now)) }
+    ensures { IfOk result (λ s. s
+        ≡ shown_reply tx (reply_told name.now version made.now request.now)) }
 {
     match request {
         Request::Create { .. } => Ok(Shown::Created {
@@ -81,7 +82,8 @@ fn shown_commit(
     made: &Mades,
     command: Option<&Command>,
 ) -> Result<Shown, NoMemory>
-    ensures { IfOk result (λ s. s ≡ shown_commit tx name.now version made.now (option_map ask_of (option_copied command.entry))) }
+    ensures { let ask = option_map ask_of (option_copied command.entry) in
+        IfOk result (λ s. s ≡ shown_commit tx name.now version made.now ask) }
 {
     let Some(command) = command else {
         return Ok(Shown::Done { tx });
@@ -99,7 +101,8 @@ fn shown_outcome(
     command: Option<&Command>,
     outcome: &Outcome,
 ) -> Result<Shown, NoMemory>
-    ensures { IfOk result (λ s. s ≡ shown_outcome (option_map ask_of (option_copied command.entry)) outcome.now) }
+    ensures { let ask = option_map ask_of (option_copied command.entry) in
+        IfOk result (λ s. s ≡ shown_outcome ask outcome.now) }
 {
     match outcome {
         Outcome::Open => Ok(Shown::Plain(Code::SystemError)),
@@ -145,7 +148,8 @@ fn verb_asked(command: Option<&Command>) -> Verb
 
 /// The reply to a command.
 pub fn line_for(session: u32, command: u32, asked: Option<&Command>, shown: Shown) -> Line
-    ensures { result ≡ line.Reply session command (verb_asked (option_map ask_of (option_copied asked.entry))) shown }
+    ensures { let verb = verb_asked (option_map ask_of (option_copied asked.entry)) in
+        result ≡ line.Reply session command verb shown }
 {
     Line::Reply {
         session,
@@ -162,7 +166,8 @@ pub fn reply_line(
     commands: &[Command],
     unanswered: &Unanswered,
 ) -> Result<Line, NoMemory>
-    ensures { IfOk result (λ l. l ≡ reply_line (wording_of session (asks_of commands.now)) unanswered.now) }
+    ensures { let wording = wording_of session (asks_of commands.now) in
+        IfOk result (λ l. l ≡ reply_line wording unanswered.now) }
 {
     let command = command_at(commands, unanswered.command);
     let shown = shown_outcome(alloc, command, &unanswered.outcome)?;
@@ -188,8 +193,12 @@ pub fn flush(
     lines: &mut Lines,
 ) -> Result<(), NoMemory>
     ensures sent { OnOk result (sent.new.items ≡ without_ready by_outcome sent.old.items) }
-    ensures lines { OnOk result (lines.new ≡ lines.old ++ reply_lines (wording_of session (asks_of commands.now)) (ready_first by_outcome sent.old.items)) }
-    ensures seen { OnOk result (seen.new ≡ seen_lines session (reply_lines (wording_of session (asks_of commands.now)) (ready_first by_outcome sent.old.items)) seen.old) }
+    ensures lines { let wording = wording_of session (asks_of commands.now) in
+        let replies = reply_lines wording (ready_first by_outcome sent.old.items) in
+        OnOk result (lines.new ≡ lines.old ++ replies) }
+    ensures seen { let wording = wording_of session (asks_of commands.now) in
+        let replies = reply_lines wording (ready_first by_outcome sent.old.items) in
+        OnOk result (seen.new ≡ seen_lines session replies seen.old) }
 {
     'flushing: while is_first_ready(sent.as_slice()) {
         let first = sent.remove(0);

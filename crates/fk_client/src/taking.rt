@@ -1,26 +1,22 @@
 //! A client takes the message at the head of its inbox.
 
-ghost use Rattle.std.specs.Prelude.{◌≡◌, [], true, if◌then◌else◌, is_some, None, Option, Some, IfOk, OnOk};
+ghost use Rattle.std.specs.Prelude.{◌≡◌, [], true, if◌then◌else◌, is_some, None, Some, IfOk};
 ghost use Rattle.fk_queue.specs.Lanes.{is_session};
 ghost use Rattle.fk_queue.specs.Letters.{head_bytes, head_number};
 ghost use Rattle.fk_queue.specs.Meaning.{has_lane};
 ghost use Rattle.fk_queue.specs.Posts.{post_of};
 ghost use Rattle.fk_queue.specs.declared.lane.Lane.{Lane};
 ghost use Rattle.fk_queue.specs.declared.lane.Lane.TheVariants as lane;
-ghost use Rattle.fk_store.specs.Meaning as records;
-ghost use Rattle.fk_queue.specs.Meaning as queues;
-ghost use Rattle.fk_user.specs.Meaning as store;
-ghost use Rattle.fk_watch.specs.Meaning.{Watches};
 ghost use Rattle.fk_wire.specs.declared.message.Tell.{Tell};
-ghost use Rattle.fk_wire.specs.declared.message.Tell.TheVariants as tell;
 ghost use Rattle.fk_spec.specs.Client.{contains, evicted, notified, settle_with, take_op, without_reading};
 ghost use Rattle.fk_spec.specs.Replies.{expired_lines, notice_of};
+ghost use Rattle.fk_client.specs.Acting.{GoesOnAt, KeepsTable, KeepsUser, KeepsWatches, PrintsOf};
 ghost use Rattle.fk_client.specs.Known.{by_outcome};
 ghost use Rattle.fk_client.specs.Meaning.{holding};
 ghost use Rattle.fk_client.specs.Operation.{failed_if};
-ghost use Rattle.fk_client.specs.Services.{post_by, table_by, user_by, watches_by};
-ghost use Rattle.fk_client.specs.Shown.{lines_in, made_by, seeing};
-ghost use Rattle.fk_client.specs.Sighting.{firing_by, message_told, sight_by};
+ghost use Rattle.fk_client.specs.Services.{post_by};
+ghost use Rattle.fk_client.specs.Shown.{seeing};
+ghost use Rattle.fk_client.specs.Sighting.{firing_by, message_told};
 ghost use Rattle.fk_client.specs.Standing.{client_of};
 ghost use Rattle.fk_client.specs.Told.{IsReadable, IsTold};
 
@@ -50,7 +46,8 @@ fn head_message(alloc: Global, post: &Post, lane: Lane) -> Result<Tell, NoMemory
     requires lane { has_lane (post_of post.now) lane ≡ true }
     requires head { is_some (head_number ((post_of post.now).lanes lane)) ≡ true }
     requires readable { IsReadable ((post_of post.now).lanes lane).waiting }
-    ensures { (m : Tell) → IsTold ((post_of post.now).lanes lane).waiting (Some m) → IfOk result (λ n. n ≡ m) }
+    ensures { (m : Tell) → IsTold ((post_of post.now).lanes lane).waiting (Some m)
+        → IfOk result (λ n. n ≡ m) }
 {
     let text = head_text(alloc, post, lane)?;
     match decode_tell(alloc, text.as_slice()) {
@@ -66,15 +63,25 @@ impl Client {
     pub(crate) fn take(&mut self, post: &mut Post, number: u64) -> Result<(Op, Lines), NoMemory>
         requires owed { self.old.owed ≡ None }
         requires session { is_session (post_of post.old).sessions self.old.session ≡ true }
-        requires head { head_number ((post_of post.old).lanes (lane.Inbox self.old.session)) ≡ Some number }
-        requires readable { IsReadable ((post_of post.old).lanes (lane.Inbox self.old.session)).waiting }
-        ensures op { (told : Tell) → IsTold ((post_of post.old).lanes (lane.Inbox self.old.session)).waiting (Some told) → IfOk result (λ r. r.0 ≡ failed_if (post_of post.old).armed (take_op self.old.session (message_told told))) }
-        ensures lines { (q : queues.Meaning) (w : Watches) (u : store.Meaning) (told : Tell) → IsTold ((post_of post.old).lanes (lane.Inbox self.old.session)).waiting (Some told) → IfOk result (λ r. r.1 ≡ lines_in (sight_by q w u (Some told) (client_of self.old)) r.0 (client_of self.old)) }
-        ensures client { (q : queues.Meaning) (w : Watches) (u : store.Meaning) (told : Tell) → IsTold ((post_of post.old).lanes (lane.Inbox self.old.session)).waiting (Some told) → IfOk result (λ r. client_of self.new ≡ made_by q w u (Some told) r.0 (client_of self.old)) }
-        ensures post { IfOk result (λ r. post_of post.new ≡ post_by (client_of self.old) r.0 (post_of post.old)) }
-        ensures table { (t : records.Meaning) → IfOk result (λ r. t ≡ table_by r.0 t) }
-        ensures watches { (w : Watches) → IfOk result (λ r. w ≡ watches_by (client_of self.old) r.0 w) }
-        ensures user { (u : store.Meaning) → IfOk result (λ r. u ≡ user_by r.0 u) }
+        requires head { let inbox = (post_of post.old).lanes (lane.Inbox self.old.session) in
+            head_number inbox ≡ Some number }
+        requires readable { let inbox = (post_of post.old).lanes (lane.Inbox self.old.session) in
+            IsReadable inbox.waiting }
+        ensures op { let q = post_of post.old in
+            (told : Tell) → IsTold (q.lanes (lane.Inbox self.old.session)).waiting (Some told)
+            → IfOk result (λ r. r.0
+            ≡ failed_if q.armed (take_op self.old.session (message_told told))) }
+        ensures lines { let inbox = (post_of post.old).lanes (lane.Inbox self.old.session) in
+            (told : Tell) → IsTold inbox.waiting (Some told)
+            → PrintsOf told result (client_of self.old) }
+        ensures client { let inbox = (post_of post.old).lanes (lane.Inbox self.old.session) in
+            (told : Tell) → IsTold inbox.waiting (Some told)
+            → GoesOnAt told result (client_of self.old) (client_of self.new) }
+        ensures post { IfOk result (λ r. post_of post.new
+            ≡ post_by (client_of self.old) r.0 (post_of post.old)) }
+        ensures table { KeepsTable result }
+        ensures watches { KeepsWatches result (client_of self.old) }
+        ensures user { KeepsUser result }
     {
         let lane = Lane::Inbox(self.session);
         let message = head_message(self.alloc, post, lane)?;
@@ -95,11 +102,11 @@ impl Client {
     fn told(&mut self, message: Tell) -> Result<(Op, Lines), NoMemory>
         requires owed { self.old.owed ≡ None }
         ensures op { IfOk result (λ r. r.0 ≡ take_op self.old.session (message_told message)) }
-        ensures table { (t : records.Meaning) → IfOk result (λ r. t ≡ table_by r.0 t) }
-        ensures watches { (w : Watches) → IfOk result (λ r. w ≡ watches_by (client_of self.old) r.0 w) }
-        ensures user { (u : store.Meaning) → IfOk result (λ r. u ≡ user_by r.0 u) }
-        ensures lines { (q : queues.Meaning) (w : Watches) (u : store.Meaning) → IfOk result (λ r. r.1 ≡ lines_in (sight_by q w u (Some message) (client_of self.old)) r.0 (client_of self.old)) }
-        ensures client { (q : queues.Meaning) (w : Watches) (u : store.Meaning) → IfOk result (λ r. client_of self.new ≡ made_by q w u (Some message) r.0 (client_of self.old)) }
+        ensures table { KeepsTable result }
+        ensures watches { KeepsWatches result (client_of self.old) }
+        ensures user { KeepsUser result }
+        ensures lines { PrintsOf message result (client_of self.old) }
+        ensures client { GoesOnAt message result (client_of self.old) (client_of self.new) }
     {
         let session = self.session;
         match message {
@@ -162,7 +169,8 @@ impl Client {
 
     #[tactic(auto, unfolding(crate::specs::Standing::client_of))]
     fn settle(&mut self, k: u64, outcome: Outcome)
-        ensures { client_of self.new ≡ seeing [] (settle_with by_outcome k (Some outcome) (client_of self.old).client) (client_of self.old) }
+        ensures { let m = client_of self.old in
+            client_of self.new ≡ seeing [] (settle_with by_outcome k (Some outcome) m.client) m }
     {
         settle(&mut self.sent, k, outcome);
         self.give_up();
@@ -171,7 +179,8 @@ impl Client {
     // a read that isn't answered is given up
     #[tactic(auto, unfolding(crate::specs::Standing::client_of))]
     fn give_up(&mut self)
-        ensures { client_of self.new ≡ holding (without_reading (client_of self.old).client) (client_of self.old) }
+        ensures { let m = client_of self.old in
+            client_of self.new ≡ holding (without_reading m.client) m }
     {
         self.reading = None;
     }
@@ -180,7 +189,8 @@ impl Client {
     #[tactic(auto, unfolding(crate::specs::Standing::client_of))]
     fn evict(&mut self, tx: u64) -> Result<Lines, NoMemory>
         ensures lines { IfOk result (λ ls. ls ≡ expired_lines self.old.closed self.old.session tx) }
-        ensures client { OnOk result (client_of self.new ≡ seeing (expired_lines self.old.closed self.old.session tx) (evicted (client_of self.old).client) (client_of self.old)) }
+        ensures client { let m = client_of self.old in
+            IfOk result (λ ls. client_of self.new ≡ seeing ls (evicted m.client) m) }
     {
         let mut lines = Lines::new(self.alloc);
         self.held = Vec::new(self.alloc);
@@ -200,8 +210,11 @@ impl Client {
     // a watch fired, which it prints where it holds the watch
     #[tactic(auto, unfolding(crate::specs::Standing::client_of))]
     fn notice(&mut self, tx: u64, fired: Fired) -> Result<Lines, NoMemory>
-        ensures lines { IfOk result (λ ls. ls ≡ (if contains fired.id self.old.held.items then notice_of self.old.session (Some (firing_by tx fired)) else [])) }
-        ensures client { OnOk result (client_of self.new ≡ seeing (if contains fired.id self.old.held.items then notice_of self.old.session (Some (firing_by tx fired)) else []) (notified fired.id (client_of self.old).client) (client_of self.old)) }
+        ensures lines { let notice = notice_of self.old.session (Some (firing_by tx fired)) in
+            IfOk result (λ ls. ls
+            ≡ (if contains fired.id self.old.held.items then notice else [])) }
+        ensures client { let m = client_of self.old in
+            IfOk result (λ ls. client_of self.new ≡ seeing ls (notified fired.id m.client) m) }
     {
         let mut lines = Lines::new(self.alloc);
         let is_held = contains(self.held.as_slice(), fired.id);

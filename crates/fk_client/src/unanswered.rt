@@ -43,8 +43,8 @@ pub enum Outcome {
     },
 }
 
-/// A command that isn't answered: its place among its client's, from 1, and its message's place in the
-/// session's lane where it was sent, else 0.
+/// A command that isn't answered: its place among its client's, from 1, and its message's place in
+/// the session's lane where it was sent, else 0.
 #[derive(Drop)]
 pub struct Unanswered {
     pub command: u32,

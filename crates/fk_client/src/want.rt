@@ -1,9 +1,8 @@
 //! What a command wants.
 
-ghost use Rattle.std.specs.Prelude.{◌≡◌, ◌++◌, if◌then◌else◌, true, Some, None, option_map, not, IfOk};
+ghost use Rattle.std.specs.Prelude.{◌≡◌, ◌++◌, if◌then◌else◌, true, Some, None, option_map, IfOk};
 ghost use Rattle.fk_spec.specs.Client.{is_close, is_write};
-ghost use Rattle.fk_spec.specs.Plan.{ask_of, parts_of, part_of, path_limit, path_within, verb_of, waits, want_of};
-ghost use Rattle.fk_client.specs.Meaning.{asks_read, is_read};
+ghost use Rattle.fk_spec.specs.Plan.{ask_of, parts_of, part_of, path_within, verb_of, waits, want_of};
 ghost use Rattle.fk_client.specs.Wanted.{want_as};
 
 use fk_base::{Bytes, NoMemory, Path, PathFault, Text};
@@ -21,8 +20,8 @@ const PATH_LIMIT: usize = 512;
 /// The same for a sequential create, whose ten digits come behind.
 const NUMBERED_LIMIT: usize = 502;
 
-/// What a command wants: nothing that can be asked, a change of the tree, or an answer from it, with a watch or
-/// without.
+/// What a command wants: nothing that can be asked, a change of the tree, or an answer from it, with
+/// a watch or without.
 #[derive(Drop)]
 pub enum Want {
     Unfit,
@@ -51,7 +50,8 @@ fn want_create(
     seq: bool,
     eph: bool,
 ) -> Result<Want, NoMemory>
-    ensures { IfOk result (λ w. want_as w ≡ want_of (Command.Create path.now bytes.now seq eph true)) }
+    ensures { let command = Command.Create path.now bytes.now seq eph true in
+        IfOk result (λ w. want_as w ≡ want_of command) }
 {
     if bytes.len() > DATA_LIMIT {
         return Ok(Want::Unfit);
@@ -166,7 +166,8 @@ fn delete_part(alloc: Global, path: &Text, version: i32) -> Result<Option<Part>,
 
 // adds the parts that these mean, and tells whether each of them is fit
 fn push_parts(alloc: Global, parts: &mut Parts, commands: &[PartCommand]) -> Result<bool, NoMemory>
-    ensures { IfOk result (λ fit. option_map (λ ps. parts.old ++ ps) (parts_of commands.now) ≡ (if fit then Some parts.new else None)) }
+    ensures { let all = option_map (λ ps. parts.old ++ ps) (parts_of commands.now) in
+        IfOk result (λ fit. all ≡ (if fit then Some parts.new else None)) }
 {
     match commands {
         [] => Ok(true),

@@ -11,6 +11,7 @@ use Rattle.fk_store.specs.Conds.{session_of}
 use Rattle.fk_store.specs.Meaning as table
 use Rattle.fk_store.specs.declared.outcome.Outcome.{Outcome}
 use Rattle.fk_store.specs.declared.outcome.Outcome.TheVariants as kept
+use Rattle.fk_store.specs.declared.session_record.SessionRecord.{SessionRecord}
 use Rattle.fk_wire.specs.Limits.{IsLimitedRequest, IsNumber}
 use Rattle.fk_follow.specs.Meaning.{Meaning, is_ended}
 
@@ -36,12 +37,16 @@ pub record HasSession (t : table.Meaning) (q : post.Meaning) (session : ℕ) : T
   pub pushes : (q.lanes lane.Leader).given < 2 ^ 63 - 1
   pub inbox : (q.lanes (lane.Inbox session)).given < 2 ^ 63 - 1
 
+-- where request k is the session's last settled one, its outcome was kept
+abbrev pub KeepsOutcome : ℕ → SessionRecord → Type 0
+KeepsOutcome k s = s.settled ≡ k → s.outcome ≢ kept.Nothing
+
 -- It has not ended; its message is numbered from 1, and where it is the session's last settled one, an outcome was
 -- kept.
 pub record IsFit (t : table.Meaning) (q : post.Meaning) (now : ℕ) (m : Meaning) : Type 0 where
   pub going : is_ended m ≡ false
   pub first : 1 ≤ m.follower.k
-  pub kept : (session_of t m.follower.session).settled ≡ m.follower.k → (session_of t m.follower.session).outcome ≢ kept.Nothing
+  pub kept : KeepsOutcome m.follower.k (session_of t m.follower.session)
   pub session : HasSession t q m.follower.session
   pub limits : IsLimited now m
 

@@ -8,4 +8,5 @@ pub mod Said
 pub mod Sending
 pub mod Services
 pub mod Standing
+pub mod Steps
 pub mod Worked

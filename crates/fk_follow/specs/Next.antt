@@ -1,5 +1,5 @@
 -- Where a follower stands after its operation: one line for each answer.
-use Rattle.std.specs.Prelude.{ℕ, List, [], ◌∷◌, ◌++◌, max}
+use Rattle.std.specs.Prelude.{◌≡◌, ℕ, List, [], ◌∷◌, ◌++◌, max, Result, IfOk}
 use Rattle.fk_base.specs.Path.{PathNames}
 use Rattle.fk_print.specs.declared.op.Op.{Op}
 use Rattle.fk_print.specs.declared.op.Op.TheVariants as op
@@ -8,6 +8,7 @@ use Rattle.fk_store.specs.Conds.{session_of}
 use Rattle.fk_store.specs.Meaning as table
 use Rattle.fk_store.specs.Meaning.{or_no_record}
 use Rattle.fk_store.specs.declared.outcome.Outcome.{Outcome}
+use Rattle.fk_store.specs.declared.session_record.SessionRecord.{SessionRecord}
 use Rattle.fk_store.specs.declared.outcome.Outcome.TheVariants as kept
 use Rattle.fk_spec.specs.Follower.{Follower, Granted, Stage, to_begin, to_lock}
 use Rattle.fk_spec.specs.Follower as stage
@@ -46,16 +47,28 @@ with_granted g f = record f { granted = f.granted ++ g ∷ [] }
 abbrev pub with_own : PathNames → ℕ → Meaning → Meaning
 with_own path now m = record m { owns = m.owns ++ record { path = path; moment = now } ∷ [] }
 
+-- having this, it locks its next path, or decides after the last one
+abbrev pub locking : Follower → Meaning → Meaning
+locking f m = going_on (to_lock m.message.seen m.message.request f) m
+
+-- having this, it begins
+abbrev pub beginning : Follower → Meaning → Meaning
+beginning f m = going_on (to_begin m.message.seen m.message.request f) m
+
+-- it was granted one more lock at this moment, and goes on
+abbrev pub holding : Granted → ℕ → Meaning → Meaning
+holding g now m = locking (with_granted g m.follower) (with_own g.path now m)
+
 -- What comes after each answer, on this table at this moment. `owned` is what the table gives for the session's
 -- own nodes.
 abbrev pub next_with : table.Meaning → List PathNames → ℕ → Op → Meaning → Meaning
-next_with t owned now (op.SessionNew n) m = going_on (to_begin m.message.seen m.message.request (record m.follower { last = (session_of t m.follower.session).last })) m
+next_with t owned now (op.SessionNew n) m = beginning (record m.follower { last = (session_of t m.follower.session).last }) m
 next_with t owned now (op.SessionClosed n) m = going_to (stage.Expire (max m.message.seen (session_of t m.follower.session).last)) m
 next_with t owned now (op.SessionApplied n) m = going_to stage.Ack m
 next_with t owned now (op.SessionRefused n) m = with_outcome stage.Reply (session_of t m.follower.session).outcome m
 next_with t owned now (op.SessionPast n) m = going_to stage.Ack m
-next_with t owned now (op.Owned n count) m = going_on (to_lock m.message.seen m.message.request (record m.follower { owned = owned })) m
-next_with t owned now (op.LockOk n path) m = going_on (to_lock m.message.seen m.message.request (with_granted (granted_at t path) m.follower)) (with_own path now m)
+next_with t owned now (op.Owned n count) m = locking (record m.follower { owned = owned }) m
+next_with t owned now (op.LockOk n path) m = holding (granted_at t path) now m
 next_with t owned now (op.LockBusy n path holder moment) m = m
 next_with t owned now (op.Push n tx) m = committing tx now m
 next_with t owned now (op.CommitOk n tx) m = going_to stage.Ack m
@@ -72,3 +85,20 @@ next_with t owned now _ m = going_to stage.Ended m
 -- The follower after its operation on these services at this moment.
 abbrev pub after_step : table.Meaning → post.Meaning → ℕ → ℕ → List PathNames → Meaning → Meaning
 after_step t q now time owned m = next_with t owned now (step_op t q now time owned m) m
+
+-- What comes after its operation on this table is `new`, whatever list and moment it is given.
+abbrev pub GoesOnAt : {E : Type 0} → table.Meaning → Result Op E → Meaning → Meaning → Type 0
+GoesOnAt t r old new = (owned : List PathNames) (now : ℕ) → IfOk r (λ o. new ≡ next_with t owned now o old)
+
+-- the same on every table whose record of its session is this
+abbrev pub GoesOnFrom : {E : Type 0} → SessionRecord → Result Op E → Meaning → Meaning → Type 0
+GoesOnFrom s r old new = (t : table.Meaning) (owned : List PathNames) (now : ℕ)
+    → session_of t old.follower.session ≡ s → IfOk r (λ o. new ≡ next_with t owned now o old)
+
+-- the same on every table
+abbrev pub GoesOn : {E : Type 0} → Result Op E → Meaning → Meaning → Type 0
+GoesOn r old new = (t : table.Meaning) → GoesOnAt t r old new
+
+-- the same of an operation that was made
+abbrev pub GoesOnAfter : Op → Meaning → Meaning → Type 0
+GoesOnAfter o old new = (t : table.Meaning) (owned : List PathNames) (now : ℕ) → new ≡ next_with t owned now o old

@@ -14,6 +14,10 @@ abbrev pub IsGiven : Meaning → ℕ → Option (List PathNames) → Type 0
 IsGiven t session None = t.armed ≡ true
 IsGiven t session (Some owned) = AreOwned t session owned
 
+-- what a call of a table gives: nothing where the table is armed
+abbrev pub unless_armed : {A : Type 0} → Meaning → A → Option A
+unless_armed t x = if t.armed then None else Some x
+
 -- what becomes of taking a lock
 abbrev pub took_of : Meaning → PathNames → ℕ → ℕ → Took
 took_of t p now time =

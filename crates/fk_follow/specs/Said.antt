@@ -1,6 +1,7 @@
 -- The operation of each answer.
 use Rattle.std.specs.Prelude.{ℕ, ◌+◌, ◌==◌, if◌then◌else◌, List}
 use Rattle.fk_base.specs.Path.{PathNames}
+use Rattle.fk_base.specs.declared.code.Code.{Code}
 use Rattle.fk_print.specs.declared.op.Op.{Op}
 use Rattle.fk_print.specs.declared.op.Op.TheVariants as op
 use Rattle.fk_print.specs.declared.op.Word.TheVariants as word
@@ -19,6 +20,9 @@ commit_by n tx verdict.Done = op.CommitOk n tx
 commit_by n tx (verdict.Settled settled) = op.CommitSettled n tx settled
 commit_by n tx (verdict.Passed path holder moment) = op.CommitLock n tx path holder moment
 commit_by n tx verdict.Failed = op.Fault n word.Commit
+
+abbrev pub refusal_of : Code → ℕ → Refusal
+refusal_of code place = record { code = code; place = place }
 
 abbrev pub refuse_by : ℕ → Refusal → ℕ → Verdict → Op
 refuse_by n r at verdict.Done = op.RefuseOk n r.code r.place at

@@ -102,18 +102,19 @@ abbrev pub committed : ℕ → Pushed → table.Meaning → table.Meaning
 committed tx x t = transacted (commit_conds x) (commit_writes tx x) t
 
 -- an outcome is settled where these locks are held, which are released
-abbrev pub settled_as : Outcome → List PathNames → ℕ → Follower → table.Meaning → table.Meaning
-settled_as o ps n f t = transacted (settle_conds f.session f.k n ps) (refuse_writes f.session f.k o ps) t
+abbrev pub settled_as : Outcome → List PathNames → Meaning → table.Meaning → table.Meaning
+settled_as o ps m t =
+    transacted (settle_conds m.follower.session m.follower.k m.inv ps) (refuse_writes m.follower.session m.follower.k o ps) t
 
 abbrev pub stage_table : table.Meaning → ℕ → ℕ → Meaning → Stage → table.Meaning
 stage_table t now time m stage.Session = table.called t
 stage_table t now time m stage.Owned = table.called t
 stage_table t now time m (stage.Lock path) = taken path m.inv now time t
 stage_table t now time m stage.Push = t
-stage_table t now time m (stage.Refuse r at) = settled_as (refused r at) (locked m.follower) m.inv m.follower t
-stage_table t now time m (stage.Expire at) = settled_as (kept.Refused code.SessionExpired at 0) [] m.inv m.follower t
+stage_table t now time m (stage.Refuse r at) = settled_as (refused r at) (locked m.follower) m t
+stage_table t now time m (stage.Expire at) = settled_as (kept.Refused code.SessionExpired at 0) [] m t
 stage_table t now time m (stage.Commit tx) = committed tx (push_at m.moment m) t
-stage_table t now time m stage.Lost = settled_as m.outcome [] m.inv m.follower t
+stage_table t now time m stage.Lost = settled_as m.outcome [] m t
 stage_table t now time m stage.Reply = t
 stage_table t now time m stage.Ack = t
 stage_table t now time m stage.Ended = t

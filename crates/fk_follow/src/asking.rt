@@ -1,15 +1,15 @@
 //! A follower asks the table for its session's record, and for the session's nodes.
 
-ghost use Rattle.std.specs.Prelude.{◌≡◌, ◌≤◌, ◌+◌, ◌≢◌, ℕ, List, true, is_some, length, IfOk, OnOk};
+ghost use Rattle.std.specs.Prelude.{◌≡◌, ◌≤◌, ◌≢◌, ℕ, List, true, is_some, length, IfOk, OnOk};
 ghost use Rattle.fk_base.specs.Path.{PathNames};
 ghost use Rattle.fk_print.specs.declared.op.Op.TheVariants as op;
 ghost use Rattle.fk_print.specs.declared.op.Word.TheVariants as word;
 ghost use Rattle.fk_store.specs.Conds.{session_of};
-ghost use Rattle.fk_store.specs.Meaning.{Meaning, called};
+ghost use Rattle.fk_store.specs.Meaning.{called};
 ghost use Rattle.fk_store.specs.declared.outcome.Outcome.TheVariants as outcome;
 ghost use Rattle.fk_tree.specs.Check.{HasFewParts};
-ghost use Rattle.fk_follow.specs.Fit.{IsListOf};
-ghost use Rattle.fk_follow.specs.Next.{next_with};
+ghost use Rattle.fk_follow.specs.Fit.{IsListOf, KeepsOutcome};
+ghost use Rattle.fk_follow.specs.Next.{GoesOnAt, GoesOnFrom, next_with};
 ghost use Rattle.fk_spec.specs.Failing.{or_fault};
 ghost use Rattle.fk_follow.specs.Operation.{session_op, settled_op};
 ghost use Rattle.fk_spec.specs.Follower.{unsettled_op};
@@ -29,9 +29,13 @@ impl Follower {
         requires first { 1 ≤ self.old.k }
         requires parts { HasFewParts self.old.message.request }
         requires session { is_some ((T.meaning table.old).sessions self.old.session) ≡ true }
-        requires kept { (session_of (T.meaning table.old) self.old.session).settled ≡ self.old.k → (session_of (T.meaning table.old) self.old.session).outcome ≢ outcome.Nothing }
-        ensures op { IfOk result (λ o. o ≡ or_fault (T.meaning table.old).armed self.old.inv word.Session (session_op self.old.inv self.old.k (session_of (T.meaning table.old) self.old.session))) }
-        ensures follower { (owned : List PathNames) (now : ℕ) → IfOk result (λ o. follower_of self.new ≡ next_with (T.meaning table.old) owned now o (follower_of self.old)) }
+        requires kept { KeepsOutcome self.old.k
+            (session_of (T.meaning table.old) self.old.session) }
+        ensures op { let t = T.meaning table.old in
+            IfOk result (λ o. o ≡ or_fault t.armed self.old.inv word.Session
+            (session_op self.old.inv self.old.k (session_of t self.old.session))) }
+        ensures follower { GoesOnAt (T.meaning table.old) result
+            (follower_of self.old) (follower_of self.new) }
         ensures table { OnOk result (T.meaning table.new ≡ called (T.meaning table.old)) }
     {
         match session_at(table, self.session)? {
@@ -45,9 +49,10 @@ impl Follower {
     fn answered(&mut self, shown: &SessionRecord) -> Result<Op, NoMemory>
         requires first { 1 ≤ self.old.k }
         requires parts { HasFewParts self.old.message.request }
-        requires kept { shown.now.settled ≡ self.old.k → shown.now.outcome ≢ outcome.Nothing }
+        requires kept { KeepsOutcome self.old.k shown.now }
         ensures op { IfOk result (λ o. o ≡ session_op self.old.inv self.old.k shown.now) }
-        ensures follower { (t : Meaning) (owned : List PathNames) (now : ℕ) → session_of t self.old.session ≡ shown.now → IfOk result (λ o. follower_of self.new ≡ next_with t owned now o (follower_of self.old)) }
+        ensures follower { GoesOnFrom shown.now result
+            (follower_of self.old) (follower_of self.new) }
     {
         if shown.settled == self.k - 1 {
             return self.unsettled(shown);
@@ -66,7 +71,8 @@ impl Follower {
     fn unsettled(&mut self, shown: &SessionRecord) -> Result<Op, NoMemory>
         requires { HasFewParts self.old.message.request }
         ensures op { IfOk result (λ o. o ≡ unsettled_op self.old.inv shown.now.closed) }
-        ensures follower { (t : Meaning) (owned : List PathNames) (now : ℕ) → session_of t self.old.session ≡ shown.now → IfOk result (λ o. follower_of self.new ≡ next_with t owned now o (follower_of self.old)) }
+        ensures follower { GoesOnFrom shown.now result
+            (follower_of self.old) (follower_of self.new) }
     {
         if shown.closed {
             let at = self.message.seen.max(shown.last);
@@ -83,7 +89,8 @@ impl Follower {
     fn settled(&mut self, shown: &SessionRecord) -> Result<Op, NoMemory>
         requires { shown.now.outcome ≢ outcome.Nothing }
         ensures op { IfOk result (λ o. o ≡ settled_op self.old.inv shown.now.outcome) }
-        ensures follower { (t : Meaning) (owned : List PathNames) (now : ℕ) → session_of t self.old.session ≡ shown.now → IfOk result (λ o. follower_of self.new ≡ next_with t owned now o (follower_of self.old)) }
+        ensures follower { GoesOnFrom shown.now result
+            (follower_of self.old) (follower_of self.new) }
     {
         match kept_of(&shown.outcome)? {
             None => {
@@ -102,9 +109,16 @@ impl Follower {
     pub(crate) fn list<T: Table>(&mut self, table: &mut T) -> Result<Op, NoMemory>
         requires parts { HasFewParts self.old.message.request }
         requires session { is_some ((T.meaning table.old).sessions self.old.session) ≡ true }
-        ensures op { (owned : List PathNames) → IsListOf (T.meaning table.old) self.old.session owned → IfOk result (λ o. o ≡ or_fault (T.meaning table.old).armed self.old.inv word.Owned (op.Owned self.old.inv (length owned))) }
-        ensures follower { (owned : List PathNames) (now : ℕ) → IsListOf (T.meaning table.old) self.old.session owned → IfOk result (λ o. follower_of self.new ≡ next_with (T.meaning table.old) owned now o (follower_of self.old)) }
-        ensures given { OnOk result (IsListOf (T.meaning table.old) self.old.session (follower_of self.new).follower.owned) }
+        ensures op { let t = T.meaning table.old in
+            (owned : List PathNames) → IsListOf t self.old.session owned
+            → IfOk result (λ o. o ≡ or_fault t.armed self.old.inv word.Owned
+            (op.Owned self.old.inv (length owned))) }
+        ensures follower { let t = T.meaning table.old in
+            (owned : List PathNames) (now : ℕ) → IsListOf t self.old.session owned
+            → IfOk result (λ o. follower_of self.new
+            ≡ next_with t owned now o (follower_of self.old)) }
+        ensures given { let owned = (follower_of self.new).follower.owned in
+            OnOk result (IsListOf (T.meaning table.old) self.old.session owned) }
         ensures table { OnOk result (T.meaning table.new ≡ called (T.meaning table.old)) }
     {
         let Some(paths) = owned_at(table, self.session)? else {

@@ -1,12 +1,11 @@
 //! What a follower does after it was granted some locks.
 
-ghost use Rattle.std.specs.Prelude.{◌≡◌, IfOk, OnOk, MatchOption, Some, None, length, List};
-ghost use Rattle.fk_base.specs.Path.{PathNames};
+ghost use Rattle.std.specs.Prelude.{◌≡◌, IfOk, MatchOption, Some, None};
 ghost use Rattle.fk_tree.specs.Check.{HasFewParts, check};
 ghost use Rattle.fk_tree.specs.Shown.{rows_view};
 ghost use Rattle.fk_spec.specs.Follower.{view_of};
 ghost use Rattle.fk_spec.specs.Plan.{item_after};
-ghost use Rattle.fk_follow.specs.Deciding.{decided_as, refused_at, state_after};
+ghost use Rattle.fk_follow.specs.Deciding.{decided_as, state_after};
 ghost use Rattle.fk_follow.specs.Standing.{grants_of};
 
 use crate::granted::{Granted, greatest_last};
@@ -43,7 +42,9 @@ pub fn rows_of(alloc: Global, granted: &[Granted]) -> Result<Rows, NoMemory>
 // the path at this place, from 0
 #[tactic(auto, using(crate::proofs::Items::item_here, crate::proofs::Items::item_beyond))]
 fn item_at(paths: &[Path], place: usize) -> Option<&Path>
-    ensures { MatchOption result (item_after paths.now place ≡ None) (λ p. item_after paths.now place ≡ Some p.now) }
+    ensures { MatchOption result
+        (item_after paths.now place ≡ None)
+        (λ p. item_after paths.now place ≡ Some p.now) }
 {
     if place < paths.len() {
         Some(&paths[place])
@@ -61,7 +62,8 @@ fn decide(
     granted: &[Granted],
 ) -> Result<State, NoMemory>
     requires { HasFewParts request.now }
-    ensures { IfOk result (λ s. s ≡ decided_as at (check (view_of (grants_of granted.now)) session request.now)) }
+    ensures { let view = view_of (grants_of granted.now) in
+        IfOk result (λ s. s ≡ decided_as at (check view session request.now)) }
 {
     let rows = rows_of(alloc, granted)?;
     match rows.check(session, request) {
@@ -81,7 +83,8 @@ pub fn next_state(
     granted: &[Granted],
 ) -> Result<State, NoMemory>
     requires { HasFewParts message.now.request }
-    ensures { IfOk result (λ s. s ≡ state_after message.now.seen session last owned.now granted.now message.now.request) }
+    ensures { IfOk result (λ s. s
+        ≡ state_after message.now.seen session last owned.now granted.now message.now.request) }
 {
     let paths = lock_paths(alloc, granted, owned, &message.request)?;
     match item_at(paths.as_slice(), granted.len()) {

@@ -1,10 +1,9 @@
-ghost use Rattle.std.specs.Prelude.{◌≡◌, IfOk, OnOk};
+ghost use Rattle.std.specs.Prelude.{◌≡◌, OnOk};
 ghost use Rattle.fk_print.specs.declared.op.Op.TheVariants as op;
-ghost use Rattle.fk_spec.specs.Follower.{to_begin, to_lock};
 ghost use Rattle.fk_spec.specs.Follower as stage;
 ghost use Rattle.fk_tree.specs.Check.{HasFewParts};
 ghost use Rattle.fk_follow.specs.Meaning.{is_ended, started};
-ghost use Rattle.fk_follow.specs.Next.{going_on, going_to};
+ghost use Rattle.fk_follow.specs.Next.{beginning, going_to, locking};
 ghost use Rattle.fk_follow.specs.Standing.{follower_of};
 
 use crate::deciding::next_state;
@@ -16,8 +15,8 @@ use fk_settle::closes;
 use fk_wire::Sent;
 use std::alloc::Global;
 
-/// A function that carries request `k` of a session: it makes one operation per step, on the services that it
-/// is lent.
+/// A function that carries request `k` of a session: it makes one operation per step, on the
+/// services that it is lent.
 #[derive(Drop)]
 pub struct Follower {
     pub(crate) alloc: Global,
@@ -89,7 +88,8 @@ impl Follower {
     #[tactic(auto, unfolding(crate::specs::Standing::follower_of))]
     pub(crate) fn go_on(&mut self) -> Result<(), NoMemory>
         requires { HasFewParts self.old.message.request }
-        ensures { OnOk result (follower_of self.new ≡ going_on (to_lock self.old.message.seen self.old.message.request (follower_of self.old).follower) (follower_of self.old)) }
+        ensures { let m = follower_of self.old in
+            OnOk result (follower_of self.new ≡ locking m.follower m) }
     {
         self.state = next_state(
             self.alloc,
@@ -106,7 +106,8 @@ impl Follower {
     #[tactic(auto, unfolding(crate::specs::Standing::follower_of))]
     pub(crate) fn begin(&mut self) -> Result<(), NoMemory>
         requires { HasFewParts self.old.message.request }
-        ensures { OnOk result (follower_of self.new ≡ going_on (to_begin self.old.message.seen self.old.message.request (follower_of self.old).follower) (follower_of self.old)) }
+        ensures { let m = follower_of self.old in
+            OnOk result (follower_of self.new ≡ beginning m.follower m) }
     {
         if closes(&self.message.request) {
             self.state = State::Owned;

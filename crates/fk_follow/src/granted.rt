@@ -1,11 +1,8 @@
 //! The locks that a follower was granted, with what their records showed.
 
-ghost use Rattle.std.specs.Prelude.{◌≡◌, List, IfOk, OnOk, MatchOption, None, Some, max};
-ghost use Rattle.std.specs.Option.{option_copied};
-ghost use Rattle.fk_tree.specs.Sorted.{in_path_order};
+ghost use Rattle.std.specs.Prelude.{◌≡◌, MatchOption, None, Some};
 ghost use Rattle.fk_spec.specs.Follower.{greatest_last, node_in};
 ghost use Rattle.fk_follow.specs.Meaning.{own_moment};
-ghost use Rattle.fk_follow.specs.Operation.{paths_of};
 ghost use Rattle.fk_follow.specs.Standing.{grants_of, owns_of};
 
 use fk_base::{NoMemory, Path, Paths};
@@ -51,7 +48,8 @@ pub fn greatest_last(granted: &[Granted]) -> u64
 
 /// The node that the record of a path showed; a path that isn't granted shows none.
 pub fn node_in<'a>(granted: &'a [Granted], path: &Path) -> Option<&'a Node>
-    ensures { MatchOption result (node_in (grants_of granted.now) path.now ≡ None) (λ n. node_in (grants_of granted.now) path.now ≡ Some n.now) }
+    ensures { let node = node_in (grants_of granted.now) path.now in
+        MatchOption result (node ≡ None) (λ n. node ≡ Some n.now) }
 {
     'seeking: for lock in granted {
         if lock.path.same(path) {

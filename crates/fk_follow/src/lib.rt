@@ -1,6 +1,6 @@
-//! The follower: a function that carries one request of a session, one operation at a time. It locks the
-//! request's paths, checks it on the records that the locks gave, pushes it to the leader and commits it, or
-//! refuses it. The rules stand in `specs/`.
+//! The follower: a function that carries one request of a session, one operation at a time. It
+//! locks the request's paths, checks it on the records that the locks gave, pushes it to the leader
+//! and commits it, or refuses it. The rules stand in `specs/`.
 #![tactic(auto)]
 
 mod asking;

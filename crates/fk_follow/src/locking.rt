@@ -20,7 +20,8 @@ pub fn lock_paths(
     owned: &[Path],
     request: &Request,
 ) -> Result<Vec<Path>, NoMemory>
-    ensures { IfOk result (λ ps. ps.items ≡ lock_paths (view_of (grants_of granted.now)) owned.now request.now) }
+    ensures { let view = view_of (grants_of granted.now) in
+        IfOk result (λ ps. ps.items ≡ lock_paths view owned.now request.now) }
 {
     let mut paths = Vec::new(alloc);
     match request {
@@ -73,7 +74,8 @@ fn push_with_parents(paths: &mut Vec<Path>, owned: &[Path]) -> Result<(), NoMemo
 
 // the parent, then what its node makes of a sequential create's path
 fn push_numbered(paths: &mut Vec<Path>, path: &Path, granted: &[Granted]) -> Result<(), NoMemory>
-    ensures { OnOk result (paths.new.items ≡ paths.old.items ++ numbered_paths path.now (node_in (grants_of granted.now) (parent path.now))) }
+    ensures { let above = node_in (grants_of granted.now) (parent path.now) in
+        OnOk result (paths.new.items ≡ paths.old.items ++ numbered_paths path.now above) }
 {
     let Some(parent) = path.parent()? else {
         paths.push(path.copy()?)?;

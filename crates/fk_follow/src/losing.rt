@@ -1,11 +1,8 @@
 //! A follower settles that it lost a lock.
 
-ghost use Rattle.std.specs.Prelude.{◌≡◌, ◌≤◌, ℕ, List, [], true, false, is_some, IfOk, OnOk};
-ghost use Rattle.fk_base.specs.Path.{PathNames};
+ghost use Rattle.std.specs.Prelude.{◌≡◌, ◌≤◌, [], true, false, is_some, IfOk, OnOk};
 ghost use Rattle.fk_print.specs.declared.op.Word.TheVariants as word;
-ghost use Rattle.fk_store.specs.Meaning.{Meaning};
-ghost use Rattle.fk_store.specs.declared.outcome.Outcome.TheVariants as outcome;
-ghost use Rattle.fk_follow.specs.Next.{next_with};
+ghost use Rattle.fk_follow.specs.Next.{GoesOn, GoesOnAfter};
 ghost use Rattle.fk_spec.specs.Failing.{or_fault};
 ghost use Rattle.fk_follow.specs.Operation.{lost_op};
 ghost use Rattle.fk_follow.specs.Said.{lost_by};
@@ -31,9 +28,12 @@ impl Follower {
         requires first { 1 ≤ self.old.k }
         requires session { is_some ((T.meaning table.old).sessions self.old.session) ≡ true }
         requires loss { outcome_of loss ≡ (follower_of self.old).outcome }
-        ensures op { IfOk result (λ o. o ≡ or_fault (T.meaning table.old).armed self.old.inv word.Lost (lost_op (T.meaning table.old) self.old.inv (follower_of self.old).follower)) }
-        ensures follower { (t : Meaning) (owned : List PathNames) (now : ℕ) → IfOk result (λ o. follower_of self.new ≡ next_with t owned now o (follower_of self.old)) }
-        ensures table { OnOk result (T.meaning table.new ≡ settled_as (follower_of self.old).outcome [] self.old.inv (follower_of self.old).follower (T.meaning table.old)) }
+        ensures op { let t = T.meaning table.old in
+            IfOk result (λ o. o ≡ or_fault t.armed self.old.inv word.Lost
+            (lost_op t self.old.inv (follower_of self.old).follower)) }
+        ensures follower { GoesOn result (follower_of self.old) (follower_of self.new) }
+        ensures table { let m = follower_of self.old in
+            OnOk result (T.meaning table.new ≡ settled_as m.outcome [] m (T.meaning table.old)) }
     {
         let writes = refuse_writes(self.alloc, self.session, self.k, loss.outcome()?, &[])?;
         let verdict = settle(
@@ -53,7 +53,7 @@ impl Follower {
         requires loss { outcome_of loss ≡ (follower_of self.old).outcome }
         requires verdict { is_passed verdict ≡ false }
         ensures op { result ≡ lost_by self.old.inv verdict }
-        ensures follower { (t : Meaning) (owned : List PathNames) (now : ℕ) → follower_of self.new ≡ next_with t owned now result (follower_of self.old) }
+        ensures follower { GoesOnAfter result (follower_of self.old) (follower_of self.new) }
     {
         let function = self.inv;
         match verdict {

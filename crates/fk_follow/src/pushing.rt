@@ -58,7 +58,8 @@ impl Follower {
     #[tactic(auto, unfolding(crate::specs::Standing::follower_of))]
     fn gone(&self, rows: &Rows) -> Result<Paths, NoMemory>
         requires { rows_view rows.now ≡ view_of (follower_of self.now).follower.granted }
-        ensures { IfOk result (λ ps. ps ≡ gone_of (follower_of self.now).follower self.now.message.request) }
+        ensures { let f = (follower_of self.now).follower in
+            IfOk result (λ ps. ps ≡ gone_of f self.now.message.request) }
     {
         match &self.message.request {
             Request::Close { .. } => {
@@ -100,9 +101,14 @@ impl Follower {
         requires now { IsNumber now }
         requires request { IsLimitedRequest self.old.message.request }
         requires room { ((post_of post.old).lanes lane.Leader).given < 2 ^ 63 - 1 }
-        ensures op { IfOk result (λ o. o ≡ or_fault (post_of post.old).armed self.old.inv word.Push (op.Push self.old.inv (((post_of post.old).lanes lane.Leader).given + 1))) }
-        ensures follower { (t : Meaning) (owned : List PathNames) → IfOk result (λ o. follower_of self.new ≡ next_with t owned now o (follower_of self.old)) }
-        ensures post { OnOk result (post_of post.new ≡ posted lane.Leader (pushed_text version.Two (push_at now (follower_of self.old))) (post_of post.old)) }
+        ensures op { let q = post_of post.old in
+            IfOk result (λ o. o ≡ or_fault q.armed self.old.inv word.Push
+            (op.Push self.old.inv ((q.lanes lane.Leader).given + 1))) }
+        ensures follower { (t : Meaning) (owned : List PathNames)
+            → IfOk result (λ o. follower_of self.new
+            ≡ next_with t owned now o (follower_of self.old)) }
+        ensures post { let text = pushed_text version.Two (push_at now (follower_of self.old)) in
+            OnOk result (post_of post.new ≡ posted lane.Leader text (post_of post.old)) }
         ensures sent { OnOk result (IsPushedReadable (push_at now (follower_of self.old))) }
     {
         let push = self.pushed(now)?;

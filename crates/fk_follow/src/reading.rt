@@ -1,11 +1,11 @@
 //! What a follower reads of the table, copied out of it.
 
-ghost use Rattle.std.specs.Prelude.{◌≡◌, List, true, is_some, if◌then◌else◌, None, Some, IfOk, OnOk};
+ghost use Rattle.std.specs.Prelude.{◌≡◌, List, true, is_some, IfOk, OnOk};
 ghost use Rattle.fk_base.specs.Path.{PathNames};
 ghost use Rattle.fk_store.specs.Conds.{session_of};
 ghost use Rattle.fk_store.specs.Meaning.{called};
 ghost use Rattle.fk_follow.specs.Fit.{IsListOf};
-ghost use Rattle.fk_follow.specs.Reading.{IsGiven, took_of};
+ghost use Rattle.fk_follow.specs.Reading.{IsGiven, took_of, unless_armed};
 ghost use Rattle.fk_follow.specs.Services.{taken};
 
 use fk_base::{NoMemory, Path, Paths};
@@ -23,7 +23,8 @@ pub enum Took {
 /// The record of a session, or none where the table fails.
 pub fn session_at<T: Table>(table: &mut T, session: u32) -> Result<Option<SessionRecord>, NoMemory>
     requires { is_some ((T.meaning table.old).sessions session) ≡ true }
-    ensures record { IfOk result (λ o. o ≡ (if (T.meaning table.old).armed then None else Some (session_of (T.meaning table.old) session))) }
+    ensures record { let t = T.meaning table.old in
+        IfOk result (λ o. o ≡ unless_armed t (session_of t session)) }
     ensures table { OnOk result (T.meaning table.new ≡ called (T.meaning table.old)) }
 {
     match table.session(session) {
@@ -37,7 +38,9 @@ pub fn session_at<T: Table>(table: &mut T, session: u32) -> Result<Option<Sessio
 pub fn owned_at<T: Table>(table: &mut T, session: u32) -> Result<Option<Paths>, NoMemory>
     requires { is_some ((T.meaning table.old).sessions session) ≡ true }
     ensures given { IfOk result (λ o. IsGiven (T.meaning table.old) session o) }
-    ensures owned { (owned : List PathNames) → IsListOf (T.meaning table.old) session owned → IfOk result (λ o. o ≡ (if (T.meaning table.old).armed then None else Some owned)) }
+    ensures owned { let t = T.meaning table.old in
+        (owned : List PathNames) → IsListOf t session owned
+        → IfOk result (λ o. o ≡ unless_armed t owned) }
     ensures table { OnOk result (T.meaning table.new ≡ called (T.meaning table.old)) }
 {
     match table.owned(session) {
@@ -56,7 +59,8 @@ pub fn take_lock<T: Table>(
     lock: u64,
 ) -> Result<Took, NoMemory>
     ensures took { IfOk result (λ r. r ≡ took_of (T.meaning table.old) path.now now lock) }
-    ensures table { OnOk result (T.meaning table.new ≡ taken path.now inv now lock (T.meaning table.old)) }
+    ensures table { let t = T.meaning table.old in
+        OnOk result (T.meaning table.new ≡ taken path.now inv now lock t) }
 {
     match table.take(path, inv, now, lock) {
         Taken::Granted(kept) => {

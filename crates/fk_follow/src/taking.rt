@@ -5,8 +5,7 @@ ghost use Rattle.fk_base.specs.Path.{PathNames};
 ghost use Rattle.fk_print.specs.declared.op.Word.TheVariants as word;
 ghost use Rattle.fk_store.specs.Meaning.{lock_of};
 ghost use Rattle.fk_tree.specs.Check.{HasFewParts};
-ghost use Rattle.fk_spec.specs.Follower.{to_lock};
-ghost use Rattle.fk_follow.specs.Next.{going_on, next_with, with_granted, with_own};
+ghost use Rattle.fk_follow.specs.Next.{holding, next_with};
 ghost use Rattle.fk_spec.specs.Failing.{or_fault};
 ghost use Rattle.fk_follow.specs.Operation.{lock_op};
 ghost use Rattle.fk_follow.specs.Services.{taken};
@@ -31,9 +30,15 @@ impl Follower {
         lock: u64,
     ) -> Result<Op, NoMemory>
         requires parts { HasFewParts self.old.message.request }
-        ensures op { IfOk result (λ o. o ≡ or_fault (T.meaning table.old).armed self.old.inv word.Lock (lock_op now lock self.old.inv path (lock_of (T.meaning table.old) path))) }
-        ensures follower { (owned : List PathNames) → IfOk result (λ o. follower_of self.new ≡ next_with (T.meaning table.old) owned now o (follower_of self.old)) }
-        ensures table { OnOk result (T.meaning table.new ≡ taken path self.old.inv now lock (T.meaning table.old)) }
+        ensures op { let t = T.meaning table.old in
+            IfOk result (λ o. o ≡ or_fault t.armed self.old.inv word.Lock
+            (lock_op now lock self.old.inv path (lock_of t path))) }
+        ensures follower { let t = T.meaning table.old in
+            (owned : List PathNames)
+            → IfOk result (λ o. follower_of self.new
+            ≡ next_with t owned now o (follower_of self.old)) }
+        ensures table { let t = T.meaning table.old in
+            OnOk result (T.meaning table.new ≡ taken path self.old.inv now lock t) }
     {
         match take_lock(table, &path, self.inv, now, lock)? {
             Took::Failed => Ok(self.fail(Word::Lock)),
@@ -57,7 +62,8 @@ impl Follower {
     #[tactic(auto, unfolding(crate::specs::Standing::follower_of))]
     fn hold(&mut self, path: Path, node: Option<Node>, last: u64, now: u64) -> Result<(), NoMemory>
         requires { HasFewParts self.old.message.request }
-        ensures { OnOk result (follower_of self.new ≡ going_on (to_lock self.old.message.seen self.old.message.request (with_granted (record { path = path; node = node; last = last }) (follower_of self.old).follower)) (with_own path now (follower_of self.old))) }
+        ensures { OnOk result (follower_of self.new ≡ holding
+            (record { path = path; node = node; last = last }) now (follower_of self.old)) }
     {
         self.granted.push(Granted {
             path,

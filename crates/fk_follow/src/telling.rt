@@ -1,7 +1,6 @@
 //! A follower tells its client what was kept of the request, and acknowledges its message.
 
-ghost use Rattle.std.specs.Prelude.{◌≡◌, ◌-◌, ◌<◌, ◌^◌, ℕ, List, true, Some, IfOk, OnOk};
-ghost use Rattle.fk_base.specs.Path.{PathNames};
+ghost use Rattle.std.specs.Prelude.{◌≡◌, ◌-◌, ◌<◌, ◌^◌, true, Some, IfOk, OnOk};
 ghost use Rattle.fk_print.specs.declared.op.Op.TheVariants as op;
 ghost use Rattle.fk_print.specs.declared.op.Word.TheVariants as word;
 ghost use Rattle.fk_queue.specs.Answers.{ack_of, after_ack};
@@ -9,11 +8,10 @@ ghost use Rattle.fk_queue.specs.Letters.{head_number};
 ghost use Rattle.fk_queue.specs.Meaning.{has_lane};
 ghost use Rattle.fk_queue.specs.Posts.{post_of};
 ghost use Rattle.fk_queue.specs.declared.lane.Lane.TheVariants as lane;
-ghost use Rattle.fk_store.specs.Meaning.{Meaning};
 ghost use Rattle.fk_spec.specs.Follower.{ack_op};
 ghost use Rattle.fk_wire.specs.Limits.{IsNumber};
 ghost use Rattle.fk_follow.specs.Fit.{IsLimitedOutcome};
-ghost use Rattle.fk_follow.specs.Next.{next_with};
+ghost use Rattle.fk_follow.specs.Next.{GoesOn, GoesOnAfter};
 ghost use Rattle.fk_spec.specs.Failing.{or_fault};
 ghost use Rattle.fk_follow.specs.Said.{ack_by};
 ghost use Rattle.fk_follow.specs.Sending.{IsToldReadable};
@@ -54,10 +52,13 @@ impl Follower {
         requires k { IsNumber self.old.k }
         requires limits { IsLimitedOutcome (outcome_of kept) }
         requires lane { has_lane (post_of post.old) (lane.Inbox self.old.session) ≡ true }
-        requires room { ((post_of post.old).lanes (lane.Inbox self.old.session)).given < 2 ^ 63 - 1 }
-        ensures op { IfOk result (λ o. o ≡ or_fault (post_of post.old).armed self.old.inv word.Reply (op.Reply self.old.inv self.old.session self.old.k)) }
-        ensures follower { (t : Meaning) (owned : List PathNames) (now : ℕ) → IfOk result (λ o. follower_of self.new ≡ next_with t owned now o (follower_of self.old)) }
-        ensures post { OnOk result (post_of post.new ≡ told self.old.session (kept_tell self.old.k (outcome_of kept)) (post_of post.old)) }
+        requires room { let inbox = (post_of post.old).lanes (lane.Inbox self.old.session) in
+            inbox.given < 2 ^ 63 - 1 }
+        ensures op { IfOk result (λ o. o ≡ or_fault (post_of post.old).armed self.old.inv word.Reply
+            (op.Reply self.old.inv self.old.session self.old.k)) }
+        ensures follower { GoesOn result (follower_of self.old) (follower_of self.new) }
+        ensures post { let tell = kept_tell self.old.k (outcome_of kept) in
+            OnOk result (post_of post.new ≡ told self.old.session tell (post_of post.old)) }
         ensures sent { OnOk result (IsToldReadable (kept_tell self.old.k (outcome_of kept))) }
     {
         let tell = tell_of(self.k, kept);
@@ -80,9 +81,13 @@ impl Follower {
     #[tactic(auto, unfolding(crate::specs::Standing::follower_of), using(crate::proofs::Answering::ack_said))]
     pub(crate) fn ack(&mut self, post: &mut Post) -> Op
         requires { has_lane (post_of post.old) (lane.Session self.old.session) ≡ true }
-        ensures op { result ≡ or_fault (post_of post.old).armed self.old.inv word.Ack (ack_op self.old.inv self.old.k (head_number ((post_of post.old).lanes (lane.Session self.old.session)))) }
-        ensures follower { (t : Meaning) (owned : List PathNames) (now : ℕ) → follower_of self.new ≡ next_with t owned now result (follower_of self.old) }
-        ensures post { post_of post.new ≡ after_ack (post_of post.old) (lane.Session self.old.session) (ack_of (post_of post.old) (lane.Session self.old.session) self.old.k) }
+        ensures op { let q = post_of post.old in
+            let head = head_number (q.lanes (lane.Session self.old.session)) in
+            result ≡ or_fault q.armed self.old.inv word.Ack (ack_op self.old.inv self.old.k head) }
+        ensures follower { GoesOnAfter result (follower_of self.old) (follower_of self.new) }
+        ensures post { let q = post_of post.old in
+            let own = lane.Session self.old.session in
+            post_of post.new ≡ after_ack q own (ack_of q own self.old.k) }
     {
         let answer = post.ack(Lane::Session(self.session), self.k);
         self.acked(answer)
@@ -91,7 +96,7 @@ impl Follower {
     #[tactic(auto, unfolding(crate::specs::Standing::follower_of))]
     fn acked(&mut self, answer: Ack) -> Op
         ensures op { result ≡ ack_by self.old.inv answer }
-        ensures follower { (t : Meaning) (owned : List PathNames) (now : ℕ) → follower_of self.new ≡ next_with t owned now result (follower_of self.old) }
+        ensures follower { GoesOnAfter result (follower_of self.old) (follower_of self.new) }
     {
         self.state = State::Ended;
         match answer {

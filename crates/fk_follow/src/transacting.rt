@@ -1,15 +1,13 @@
-//! A follower's transactions: it commits its push, refuses its request, or settles that it lost a lock.
+//! A follower's transactions: it commits its push, or refuses its request.
 
-ghost use Rattle.std.specs.Prelude.{◌≡◌, ◌≤◌, ℕ, List, [], true, is_some, IfOk, OnOk};
-ghost use Rattle.fk_base.specs.Path.{PathNames};
+ghost use Rattle.std.specs.Prelude.{◌≡◌, ◌≤◌, [], true, is_some, IfOk, OnOk};
 ghost use Rattle.fk_base.specs.declared.code.Code.TheVariants as code;
 ghost use Rattle.fk_print.specs.declared.op.Word.TheVariants as word;
 ghost use Rattle.fk_store.specs.declared.outcome.Outcome.TheVariants as outcome;
-ghost use Rattle.fk_store.specs.Meaning.{Meaning};
-ghost use Rattle.fk_follow.specs.Next.{losing, next_with};
+ghost use Rattle.fk_follow.specs.Next.{GoesOn, losing};
 ghost use Rattle.fk_spec.specs.Failing.{or_fault};
 ghost use Rattle.fk_follow.specs.Operation.{commit_op, expire_op, locked, paths_of};
-ghost use Rattle.fk_follow.specs.Said.{commit_by, refuse_by, refuse_on};
+ghost use Rattle.fk_follow.specs.Said.{commit_by, refusal_of, refuse_by, refuse_on};
 ghost use Rattle.fk_follow.specs.Services.{committed, push_at, settled_as};
 ghost use Rattle.fk_follow.specs.Standing.{follower_of};
 
@@ -45,7 +43,8 @@ impl Follower {
     // the lock of a path had passed on
     #[tactic(auto, unfolding(crate::specs::Standing::follower_of))]
     fn lose(&mut self, path: &Path, holder: u64, moment: u64) -> Result<(), NoMemory>
-        ensures { OnOk result (follower_of self.new ≡ losing path.now holder moment (follower_of self.old)) }
+        ensures { let m = follower_of self.old in
+            OnOk result (follower_of self.new ≡ losing path.now holder moment m) }
     {
         self.state = State::Lost {
             path: path.copy()?,
@@ -68,9 +67,12 @@ impl Follower {
     ) -> Result<Op, NoMemory>
         requires first { 1 ≤ self.old.k }
         requires session { is_some ((T.meaning table.old).sessions self.old.session) ≡ true }
-        ensures op { IfOk result (λ o. o ≡ or_fault (T.meaning table.old).armed self.old.inv word.Commit (commit_op (T.meaning table.old) self.old.inv tx (follower_of self.old).follower)) }
-        ensures follower { (t : Meaning) (owned : List PathNames) (now : ℕ) → IfOk result (λ o. follower_of self.new ≡ next_with t owned now o (follower_of self.old)) }
-        ensures table { OnOk result (T.meaning table.new ≡ committed tx (push_at moment (follower_of self.old)) (T.meaning table.old)) }
+        ensures op { let t = T.meaning table.old in
+            IfOk result (λ o. o ≡ or_fault t.armed self.old.inv word.Commit
+            (commit_op t self.old.inv tx (follower_of self.old).follower)) }
+        ensures follower { GoesOn result (follower_of self.old) (follower_of self.new) }
+        ensures table { let push = push_at moment (follower_of self.old) in
+            OnOk result (T.meaning table.new ≡ committed tx push (T.meaning table.old)) }
     {
         let push = self.pushed(moment)?;
         let paths = self.locked()?;
@@ -90,7 +92,7 @@ impl Follower {
     #[tactic(auto, unfolding(crate::specs::Standing::follower_of))]
     fn committed(&mut self, tx: u64, verdict: Verdict) -> Result<Op, NoMemory>
         ensures op { IfOk result (λ o. o ≡ commit_by self.old.inv tx verdict) }
-        ensures follower { (t : Meaning) (owned : List PathNames) (now : ℕ) → IfOk result (λ o. follower_of self.new ≡ next_with t owned now o (follower_of self.old)) }
+        ensures follower { GoesOn result (follower_of self.old) (follower_of self.new) }
     {
         let function = self.inv;
         match verdict {
@@ -134,9 +136,15 @@ impl Follower {
     ) -> Result<Op, NoMemory>
         requires first { 1 ≤ self.old.k }
         requires session { is_some ((T.meaning table.old).sessions self.old.session) ≡ true }
-        ensures op { IfOk result (λ o. o ≡ or_fault (T.meaning table.old).armed self.old.inv word.Refuse (refuse_on (T.meaning table.old) self.old.inv (record { code = code; place = place }) at (follower_of self.old).follower (locked (follower_of self.old).follower))) }
-        ensures follower { (t : Meaning) (owned : List PathNames) (now : ℕ) → IfOk result (λ o. follower_of self.new ≡ next_with t owned now o (follower_of self.old)) }
-        ensures table { OnOk result (T.meaning table.new ≡ settled_as (outcome.Refused code at place) (locked (follower_of self.old).follower) self.old.inv (follower_of self.old).follower (T.meaning table.old)) }
+        ensures op { let t = T.meaning table.old in
+            let f = (follower_of self.old).follower in
+            IfOk result (λ o. o ≡ or_fault t.armed self.old.inv word.Refuse
+            (refuse_on t self.old.inv (refusal_of code place) at f (locked f))) }
+        ensures follower { GoesOn result (follower_of self.old) (follower_of self.new) }
+        ensures table { let m = follower_of self.old in
+            let refused = outcome.Refused code at place in
+            OnOk result (T.meaning table.new
+            ≡ settled_as refused (locked m.follower) m (T.meaning table.old)) }
     {
         let paths = self.locked()?;
         self.refuse_with(table, code, place, at, paths.as_slice())
@@ -146,9 +154,13 @@ impl Follower {
     pub(crate) fn expire<T: Table>(&mut self, table: &mut T, at: u64) -> Result<Op, NoMemory>
         requires first { 1 ≤ self.old.k }
         requires session { is_some ((T.meaning table.old).sessions self.old.session) ≡ true }
-        ensures op { IfOk result (λ o. o ≡ or_fault (T.meaning table.old).armed self.old.inv word.Refuse (expire_op (T.meaning table.old) self.old.inv at (follower_of self.old).follower)) }
-        ensures follower { (t : Meaning) (owned : List PathNames) (now : ℕ) → IfOk result (λ o. follower_of self.new ≡ next_with t owned now o (follower_of self.old)) }
-        ensures table { OnOk result (T.meaning table.new ≡ settled_as (outcome.Refused code.SessionExpired at 0) [] self.old.inv (follower_of self.old).follower (T.meaning table.old)) }
+        ensures op { let t = T.meaning table.old in
+            IfOk result (λ o. o ≡ or_fault t.armed self.old.inv word.Refuse
+            (expire_op t self.old.inv at (follower_of self.old).follower)) }
+        ensures follower { GoesOn result (follower_of self.old) (follower_of self.new) }
+        ensures table { let m = follower_of self.old in
+            OnOk result (T.meaning table.new
+            ≡ settled_as (outcome.Refused code.SessionExpired at 0) [] m (T.meaning table.old)) }
     {
         self.refuse_with(table, Code::SessionExpired, 0, at, &[])
     }
@@ -165,9 +177,14 @@ impl Follower {
     ) -> Result<Op, NoMemory>
         requires first { 1 ≤ self.old.k }
         requires session { is_some ((T.meaning table.old).sessions self.old.session) ≡ true }
-        ensures op { IfOk result (λ o. o ≡ or_fault (T.meaning table.old).armed self.old.inv word.Refuse (refuse_on (T.meaning table.old) self.old.inv (record { code = code; place = place }) at (follower_of self.old).follower paths.now)) }
-        ensures follower { (t : Meaning) (owned : List PathNames) (now : ℕ) → IfOk result (λ o. follower_of self.new ≡ next_with t owned now o (follower_of self.old)) }
-        ensures table { OnOk result (T.meaning table.new ≡ settled_as (outcome.Refused code at place) paths.now self.old.inv (follower_of self.old).follower (T.meaning table.old)) }
+        ensures op { let t = T.meaning table.old in
+            let f = (follower_of self.old).follower in
+            IfOk result (λ o. o ≡ or_fault t.armed self.old.inv word.Refuse
+            (refuse_on t self.old.inv (refusal_of code place) at f paths.now)) }
+        ensures follower { GoesOn result (follower_of self.old) (follower_of self.new) }
+        ensures table { let m = follower_of self.old in
+            OnOk result (T.meaning table.new
+            ≡ settled_as (outcome.Refused code at place) paths.now m (T.meaning table.old)) }
     {
         let outcome = Outcome::Refused { code, at, place };
         let writes = refuse_writes(self.alloc, self.session, self.k, outcome, paths)?;
@@ -185,8 +202,9 @@ impl Follower {
 
     #[tactic(auto, unfolding(crate::specs::Standing::follower_of))]
     fn refused(&mut self, code: Code, place: u32, at: u64, verdict: Verdict) -> Result<Op, NoMemory>
-        ensures op { IfOk result (λ o. o ≡ refuse_by self.old.inv (record { code = code; place = place }) at verdict) }
-        ensures follower { (t : Meaning) (owned : List PathNames) (now : ℕ) → IfOk result (λ o. follower_of self.new ≡ next_with t owned now o (follower_of self.old)) }
+        ensures op { IfOk result (λ o. o
+            ≡ refuse_by self.old.inv (refusal_of code place) at verdict) }
+        ensures follower { GoesOn result (follower_of self.old) (follower_of self.new) }
     {
         let function = self.inv;
         match verdict {

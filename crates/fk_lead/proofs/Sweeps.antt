@@ -102,10 +102,10 @@ pub swept_op : (w : Watches) (n tx : ℕ) (us ts : List Touch) (r : Sweep) (o : 
     → (s : Swept) → IsSweepOf tx ts w s → IfOk o (λ x. x ≡ or_fault w.armed n word.Sweep (sweep_op w n tx s.fired))
 swept_op w n tx us ts r o e i some h s g = both_ok o some h (λ x a b. b ∙ sweep_said w n tx ts r s (subst (λ t. IsSweep w tx t r) e i) a g)
 
-pub swept_leader : (w : Watches) (n tx : ℕ) (us ts : List Touch) (r : Sweep) (o : Result Op NoMemory) (m l : Meaning) → us ≡ ts → IsSweep w tx us r → IfOk o (λ x. r ≡ sweep.NoMemory → ⊥) → IfOk o (λ x. l ≡ next_with (swept_by r) (sweep_by n tx r) m)
-    → (s : Swept) → IsSweepOf tx ts w s → IfOk o (λ x. l ≡ next_with s (or_fault w.armed n word.Sweep (sweep_op w n tx s.fired)) m)
-swept_leader w n tx us ts r o m l e i some h s g =
-    both_ok o some h (λ x a b. let j : IsSweep w tx ts r = subst (λ t. IsSweep w tx t r) e i in b ∙ (sweep_next w n tx ts r s m j a g ∙ ap (λ y. next_with s y m) (sweep_said w n tx ts r s j a g)))
+pub swept_leader : (w : Watches) (n tx : ℕ) (us ts : List Touch) (r : Sweep) (o : Result Op NoMemory) (m l : Meaning) → us ≡ ts → IsSweep w tx us r → IfOk o (λ x. r ≡ sweep.NoMemory → ⊥) → IfOk o (λ x. x ≡ sweep_by n tx r) → IfOk o (λ x. l ≡ next_with (swept_by r) x m)
+    → (s : Swept) → IsSweepOf tx ts w s → IfOk o (λ x. l ≡ next_with s x m)
+swept_leader w n tx us ts r o m l e i some h k s g =
+    both_ok {Q = λ x. (x ≡ sweep_by n tx r) × (l ≡ next_with (swept_by r) x m)} o some (both_ok o h k (λ x a b. (a, b))) (λ x a b. let j : IsSweep w tx ts r = subst (λ t. IsSweep w tx t r) e i in b.1 ∙ (ap (λ y. next_with (swept_by r) y m) b.0 ∙ (sweep_next w n tx ts r s m j a g ∙ ap (λ y. next_with s y m) (sym b.0))))
 
 pub swept_watches : (w v : Watches) (tx : ℕ) (us ts : List Touch) (r : Sweep) (o : Result Op NoMemory) → us ≡ ts → IsSweep w tx us r → v ≡ after_sweep w tx us r → IfOk o (λ x. r ≡ sweep.NoMemory → ⊥) → IfOk o (λ x. v ≡ swept_at tx ts w)
 swept_watches w v tx us ts r o e i h some = both_ok o some some (λ x a b. h ∙ (sweep_after w tx us r i a ∙ ap (λ t. swept_at tx t w) e))
@@ -117,5 +117,6 @@ kept w n tx ts (sweep.Already k fs ids) m i e a = subst (λ x. AreSwept tx x.fir
 kept w n tx ts sweep.Failed m i e a = absurd (true≢false (sym i ∙ a))
 kept w n tx ts sweep.NoMemory m i e a = absurd (e refl)
 
-pub swept_given : (w : Watches) (n tx : ℕ) (us ts : List Touch) (r : Sweep) (o : Result Op NoMemory) (m l : Meaning) → us ≡ ts → IsSweep w tx us r → IfOk o (λ x. r ≡ sweep.NoMemory → ⊥) → IfOk o (λ x. l ≡ next_with (swept_by r) (sweep_by n tx r) m) → IfOk o (λ x. IsSweepOf tx ts w l.swept)
-swept_given w n tx us ts r o m l e i some h = both_ok o some h (λ x a b. subst (λ y. IsSweepOf tx ts w y.swept) (sym b) (kept w n tx ts r m (subst (λ t. IsSweep w tx t r) e i) a))
+pub swept_given : (w : Watches) (n tx : ℕ) (us ts : List Touch) (r : Sweep) (o : Result Op NoMemory) (m l : Meaning) → us ≡ ts → IsSweep w tx us r → IfOk o (λ x. r ≡ sweep.NoMemory → ⊥) → IfOk o (λ x. x ≡ sweep_by n tx r) → IfOk o (λ x. l ≡ next_with (swept_by r) x m) → IfOk o (λ x. IsSweepOf tx ts w l.swept)
+swept_given w n tx us ts r o m l e i some h k =
+    both_ok {Q = λ x. l ≡ next_with (swept_by r) (sweep_by n tx r) m} o some (both_ok o h k (λ x a b. b ∙ ap (λ y. next_with (swept_by r) y m) a)) (λ x a b. subst (λ y. IsSweepOf tx ts w y.swept) (sym b) (kept w n tx ts r m (subst (λ t. IsSweep w tx t r) e i) a))

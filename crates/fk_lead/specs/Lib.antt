@@ -6,4 +6,5 @@ pub mod Said
 pub mod Sending
 pub mod Services
 pub mod Standing
+pub mod Steps
 pub mod Sweeping

@@ -1,5 +1,5 @@
 -- Where a leader stands after its operation: one line for each answer.
-use Rattle.std.specs.Prelude.{List, [], ◌∷◌}
+use Rattle.std.specs.Prelude.{◌≡◌, List, [], ◌∷◌, Result, IfOk}
 use Rattle.fk_print.specs.declared.op.Op.{Op}
 use Rattle.fk_print.specs.declared.op.Op.TheVariants as op
 use Rattle.fk_queue.specs.Meaning as post
@@ -44,6 +44,14 @@ next_with s (op.Reply n session k) m = going_to stage.Done m
 next_with s (op.DoneOk n tx) m = going_to stage.Ack m
 next_with s (op.DoneMiss n tx done) m = going_to stage.Ack m
 next_with s _ m = going_to stage.Ended m
+
+-- What comes after its operation is `new`, whatever the watches gave.
+abbrev pub GoesOn : {E : Type 0} → Result Op E → Meaning → Meaning → Type 0
+GoesOn r old new = (s : Swept) → IfOk r (λ o. new ≡ next_with s o old)
+
+-- the same of an operation that was made
+abbrev pub GoesOnAfter : Op → Meaning → Meaning → Type 0
+GoesOnAfter o old new = (s : Swept) → new ≡ next_with s o old
 
 -- The leader after its operation on these services.
 abbrev pub after_step : table.Meaning → post.Meaning → Watches → user.Meaning → Swept → Meaning → Meaning

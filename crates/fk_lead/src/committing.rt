@@ -1,12 +1,12 @@
-//! A leader commits its push where the push's follower has not, and else asks whether it is pending.
+//! A leader commits its push where the push's follower has not, and else asks whether it is
+//! pending.
 
 ghost use Rattle.std.specs.Prelude.{◌≡◌, ◌≤◌, true, is_some, IfOk, OnOk, if◌then◌else◌, None, Some};
 ghost use Rattle.fk_print.specs.declared.op.Word.TheVariants as word;
 ghost use Rattle.fk_store.specs.Conds.{session_of};
 ghost use Rattle.fk_store.specs.Meaning.{called};
 ghost use Rattle.fk_settle.specs.Transaction.{committed};
-ghost use Rattle.fk_lead.specs.Meaning.{Swept};
-ghost use Rattle.fk_lead.specs.Next.{next_with};
+ghost use Rattle.fk_lead.specs.Next.{GoesOn, GoesOnAfter};
 ghost use Rattle.fk_spec.specs.Failing.{or_fault};
 ghost use Rattle.fk_lead.specs.Operation.{commit_op, is_pending, pending_op};
 ghost use Rattle.fk_lead.specs.Said.{commit_by};
@@ -24,10 +24,14 @@ impl Leader {
     #[tactic(auto, unfolding(crate::specs::Standing::leader_of), using(crate::proofs::Answering::commit_said))]
     pub(crate) fn commit<T: Table>(&mut self, table: &mut T) -> Result<Op, NoMemory>
         requires first { 1 ≤ self.old.message.k }
-        requires session { is_some ((T.meaning table.old).sessions self.old.message.session) ≡ true }
-        ensures op { IfOk result (λ o. o ≡ or_fault (T.meaning table.old).armed self.old.inv word.Commit (commit_op (T.meaning table.old) self.old.inv self.old.tx self.old.message)) }
-        ensures leader { (s : Swept) → OnOk result (leader_of self.new ≡ next_with s (or_fault (T.meaning table.old).armed self.old.inv word.Commit (commit_op (T.meaning table.old) self.old.inv self.old.tx self.old.message)) (leader_of self.old)) }
-        ensures table { OnOk result (T.meaning table.new ≡ committed self.old.tx self.old.message (T.meaning table.old)) }
+        requires session { let t = T.meaning table.old in
+            is_some (t.sessions self.old.message.session) ≡ true }
+        ensures op { let t = T.meaning table.old in
+            IfOk result (λ o. o ≡ or_fault t.armed self.old.inv word.Commit
+            (commit_op t self.old.inv self.old.tx self.old.message)) }
+        ensures leader { GoesOn result (leader_of self.old) (leader_of self.new) }
+        ensures table { let t = T.meaning table.old in
+            OnOk result (T.meaning table.new ≡ committed self.old.tx self.old.message t) }
     {
         let verdict = commit(self.alloc, table, self.tx, &self.message)?;
         Ok(self.committed(verdict))
@@ -36,7 +40,7 @@ impl Leader {
     #[tactic(auto, unfolding(crate::specs::Standing::leader_of))]
     fn committed(&mut self, verdict: Verdict) -> Op
         ensures op { result ≡ commit_by self.old.inv self.old.tx verdict }
-        ensures leader { (s : Swept) → leader_of self.new ≡ next_with s (commit_by self.old.inv self.old.tx verdict) (leader_of self.old) }
+        ensures leader { GoesOnAfter result (leader_of self.old) (leader_of self.new) }
     {
         let function = self.inv;
         let tx = self.tx;
@@ -86,7 +90,8 @@ fn is_pending(tx: u64, pending: &[u64]) -> bool
 // whether a push is pending in its session's record, or none where the table fails
 fn pending_at<T: Table>(table: &mut T, session: u32, tx: u64) -> Option<bool>
     requires { is_some ((T.meaning table.old).sessions session) ≡ true }
-    ensures pending { result ≡ (if (T.meaning table.old).armed then None else Some (is_pending tx (session_of (T.meaning table.old) session).pending)) }
+    ensures pending { let t = T.meaning table.old in
+        result ≡ (if t.armed then None else Some (is_pending tx (session_of t session).pending)) }
     ensures table { T.meaning table.new ≡ called (T.meaning table.old) }
 {
     match table.session(session) {
@@ -101,8 +106,10 @@ impl Leader {
     #[tactic(auto, unfolding(crate::specs::Standing::leader_of))]
     pub(crate) fn ask<T: Table>(&mut self, table: &mut T) -> Op
         requires { is_some ((T.meaning table.old).sessions self.old.message.session) ≡ true }
-        ensures op { result ≡ or_fault (T.meaning table.old).armed self.old.inv word.Pending (pending_op (T.meaning table.old) self.old.inv self.old.tx self.old.message.session) }
-        ensures leader { (s : Swept) → leader_of self.new ≡ next_with s (or_fault (T.meaning table.old).armed self.old.inv word.Pending (pending_op (T.meaning table.old) self.old.inv self.old.tx self.old.message.session)) (leader_of self.old) }
+        ensures op { let t = T.meaning table.old in
+            result ≡ or_fault t.armed self.old.inv word.Pending
+            (pending_op t self.old.inv self.old.tx self.old.message.session) }
+        ensures leader { GoesOnAfter result (leader_of self.old) (leader_of self.new) }
         ensures table { T.meaning table.new ≡ called (T.meaning table.old) }
     {
         let function = self.inv;

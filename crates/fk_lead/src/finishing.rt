@@ -4,8 +4,7 @@ ghost use Rattle.std.specs.Prelude.{◌≡◌, true, is_some, IfOk, OnOk};
 ghost use Rattle.fk_print.specs.declared.op.Word.TheVariants as word;
 ghost use Rattle.fk_store.specs.Writes.{are_fit_writes};
 ghost use Rattle.fk_settle.specs.Transaction.{transacted};
-ghost use Rattle.fk_lead.specs.Meaning.{Swept};
-ghost use Rattle.fk_lead.specs.Next.{next_with};
+ghost use Rattle.fk_lead.specs.Next.{GoesOn, GoesOnAfter};
 ghost use Rattle.fk_spec.specs.Failing.{or_fault};
 ghost use Rattle.fk_lead.specs.Operation.{done_op, drop_op};
 ghost use Rattle.fk_lead.specs.Said.{done_by, drop_by, finish_of};
@@ -32,7 +31,8 @@ pub enum Finish {
 fn finish_at<T: Table>(table: &mut T, tx: u64, writes: &[Write]) -> Result<Finish, NoMemory>
     requires { are_fit_writes (T.meaning table.old) writes.now ≡ true }
     ensures finish { IfOk result (λ f. f ≡ finish_of (T.meaning table.old) tx) }
-    ensures table { OnOk result (T.meaning table.new ≡ transacted (finish_conds tx) writes.now (T.meaning table.old)) }
+    ensures table { let t = T.meaning table.old in
+        OnOk result (T.meaning table.new ≡ transacted (finish_conds tx) writes.now t) }
 {
     match table.transact(&[Cond::DoneBelow(tx)], writes) {
         Transact::Done => Ok(Finish::Done),
@@ -53,9 +53,13 @@ impl Leader {
     /// It drops its push, which can never be committed.
     #[tactic(auto, unfolding(crate::specs::Standing::leader_of), using(crate::proofs::Answering::drop_said))]
     pub(crate) fn drop_push<T: Table>(&mut self, table: &mut T) -> Result<Op, NoMemory>
-        ensures op { IfOk result (λ o. o ≡ or_fault (T.meaning table.old).armed self.old.inv word.Drop (drop_op (T.meaning table.old) self.old.inv self.old.tx)) }
-        ensures leader { (s : Swept) → OnOk result (leader_of self.new ≡ next_with s (or_fault (T.meaning table.old).armed self.old.inv word.Drop (drop_op (T.meaning table.old) self.old.inv self.old.tx)) (leader_of self.old)) }
-        ensures table { OnOk result (T.meaning table.new ≡ transacted (finish_conds self.old.tx) (drop_writes self.old.tx) (T.meaning table.old)) }
+        ensures op { let t = T.meaning table.old in
+            IfOk result (λ o. o ≡ or_fault t.armed self.old.inv word.Drop
+            (drop_op t self.old.inv self.old.tx)) }
+        ensures leader { GoesOn result (leader_of self.old) (leader_of self.new) }
+        ensures table { let t = T.meaning table.old in
+            OnOk result (T.meaning table.new
+            ≡ transacted (finish_conds self.old.tx) (drop_writes self.old.tx) t) }
     {
         let finish = finish_at(table, self.tx, &[Write::Done(self.tx)])?;
         Ok(self.dropped(finish))
@@ -64,7 +68,7 @@ impl Leader {
     #[tactic(auto, unfolding(crate::specs::Standing::leader_of))]
     fn dropped(&mut self, finish: Finish) -> Op
         ensures op { result ≡ drop_by self.old.inv self.old.tx finish }
-        ensures leader { (s : Swept) → leader_of self.new ≡ next_with s (drop_by self.old.inv self.old.tx finish) (leader_of self.old) }
+        ensures leader { GoesOnAfter result (leader_of self.old) (leader_of self.new) }
     {
         let function = self.inv;
         let tx = self.tx;
@@ -87,9 +91,13 @@ impl Leader {
     #[tactic(auto, unfolding(crate::specs::Standing::leader_of), using(crate::proofs::Answering::done_said))]
     pub(crate) fn finish<T: Table>(&mut self, table: &mut T) -> Result<Op, NoMemory>
         requires { is_some ((T.meaning table.old).sessions self.old.message.session) ≡ true }
-        ensures op { IfOk result (λ o. o ≡ or_fault (T.meaning table.old).armed self.old.inv word.Done (done_op (T.meaning table.old) self.old.inv self.old.tx)) }
-        ensures leader { (s : Swept) → OnOk result (leader_of self.new ≡ next_with s (or_fault (T.meaning table.old).armed self.old.inv word.Done (done_op (T.meaning table.old) self.old.inv self.old.tx)) (leader_of self.old)) }
-        ensures table { OnOk result (T.meaning table.new ≡ transacted (finish_conds self.old.tx) (done_writes self.old.message.session self.old.tx) (T.meaning table.old)) }
+        ensures op { let t = T.meaning table.old in
+            IfOk result (λ o. o ≡ or_fault t.armed self.old.inv word.Done
+            (done_op t self.old.inv self.old.tx)) }
+        ensures leader { GoesOn result (leader_of self.old) (leader_of self.new) }
+        ensures table { let writes = done_writes self.old.message.session self.old.tx in
+            OnOk result (T.meaning table.new
+            ≡ transacted (finish_conds self.old.tx) writes (T.meaning table.old)) }
     {
         let writes = [
             Write::Done(self.tx),
@@ -105,7 +113,7 @@ impl Leader {
     #[tactic(auto, unfolding(crate::specs::Standing::leader_of))]
     fn finished(&mut self, finish: Finish) -> Op
         ensures op { result ≡ done_by self.old.inv self.old.tx finish }
-        ensures leader { (s : Swept) → leader_of self.new ≡ next_with s (done_by self.old.inv self.old.tx finish) (leader_of self.old) }
+        ensures leader { GoesOnAfter result (leader_of self.old) (leader_of self.new) }
     {
         let function = self.inv;
         let tx = self.tx;

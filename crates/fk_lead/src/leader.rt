@@ -15,7 +15,8 @@ use fk_wire::{FiredList, Pushed};
 use std::alloc::Global;
 use std::collections::VecDeque;
 
-/// A function that carries push `tx`: it makes one operation per step, on the services that it is lent.
+/// A function that carries push `tx`: it makes one operation per step, on the services that it is
+/// lent.
 #[derive(Drop)]
 pub struct Leader {
     pub(crate) alloc: Global,

@@ -1,6 +1,6 @@
-//! The leader: a function that carries one push, one operation at a time. It commits the push where its
-//! follower has not, sweeps the watches, puts the record of each edited path, publishes, notifies the
-//! fired watches, replies and finishes. The rules stand in `specs/`.
+//! The leader: a function that carries one push, one operation at a time. It commits the push where
+//! its follower has not, sweeps the watches, puts the record of each edited path, publishes,
+//! notifies the fired watches, replies and finishes. The rules stand in `specs/`.
 #![tactic(auto)]
 
 mod committing;

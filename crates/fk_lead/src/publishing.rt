@@ -8,8 +8,8 @@ ghost use Rattle.fk_user.specs.Own.{are_own};
 ghost use Rattle.fk_user.specs.Stored.{store_of};
 ghost use Rattle.fk_user.specs.declared.answer.Publish.TheVariants as publish;
 ghost use Rattle.fk_user.specs.declared.answer.PutRecord.TheVariants as put;
-ghost use Rattle.fk_lead.specs.Meaning.{Swept, edits_of};
-ghost use Rattle.fk_lead.specs.Next.{going_to, next_with, to_notify};
+ghost use Rattle.fk_lead.specs.Meaning.{edits_of};
+ghost use Rattle.fk_lead.specs.Next.{GoesOn, going_to, to_notify};
 ghost use Rattle.fk_spec.specs.Failing.{or_fault};
 ghost use Rattle.fk_lead.specs.Operation.{publish_op, put_op};
 ghost use Rattle.fk_lead.specs.Said.{publish_by, put_by};
@@ -27,7 +27,8 @@ impl Leader {
     /// It goes on to the first of its other paths, or to the publication where there is none.
     #[tactic(auto, unfolding(crate::specs::Standing::leader_of))]
     pub(crate) fn put_next(&mut self)
-        ensures { leader_of self.new ≡ going_to (to_put self.old.others.items) (leader_of self.old) }
+        ensures { leader_of self.new
+            ≡ going_to (to_put self.old.others.items) (leader_of self.old) }
     {
         self.state = match self.others.pop_front() {
             Some(path) => State::Put(path),
@@ -49,9 +50,13 @@ impl Leader {
     #[tactic(auto, unfolding(crate::specs::Standing::leader_of), using(crate::proofs::Answering::put_said, crate::proofs::Answering::put_after))]
     pub(crate) fn put(&mut self, user: &mut UserStore, path: Path) -> Result<Op, NoMemory>
         requires { (leader_of self.old).stage ≡ stage.Put path self.old.others.items }
-        ensures op { IfOk result (λ o. o ≡ or_fault (store_of user.old).armed self.old.inv word.Put (put_op (store_of user.old) self.old.inv self.old.tx path)) }
-        ensures leader { (s : Swept) → OnOk result (leader_of self.new ≡ next_with s (or_fault (store_of user.old).armed self.old.inv word.Put (put_op (store_of user.old) self.old.inv self.old.tx path)) (leader_of self.old)) }
-        ensures user { OnOk result (store_of user.new ≡ put_at path self.old.tx self.old.message.moment (edits_of path (leader_of self.old)) (store_of user.old)) }
+        ensures op { let u = store_of user.old in
+            IfOk result (λ o. o ≡ or_fault u.armed self.old.inv word.Put
+            (put_op u self.old.inv self.old.tx path)) }
+        ensures leader { GoesOn result (leader_of self.old) (leader_of self.new) }
+        ensures user { let edits = edits_of path (leader_of self.old) in
+            OnOk result (store_of user.new
+            ≡ put_at path self.old.tx self.old.message.moment edits (store_of user.old)) }
     {
         let edits = self.edits(&path)?;
         let answer = user.put(&path, self.tx, self.message.moment, &edits);
@@ -63,7 +68,7 @@ impl Leader {
         requires { (leader_of self.old).stage ≡ stage.Put path self.old.others.items }
         ensures some { IfOk result (λ o. answer ≢ put.NoMemory) }
         ensures op { IfOk result (λ o. o ≡ put_by self.old.inv self.old.tx path answer) }
-        ensures leader { (s : Swept) → OnOk result (leader_of self.new ≡ next_with s (put_by self.old.inv self.old.tx path answer) (leader_of self.old)) }
+        ensures leader { GoesOn result (leader_of self.old) (leader_of self.new) }
     {
         let function = self.inv;
         let tx = self.tx;
@@ -91,9 +96,12 @@ impl Leader {
     /// It publishes its push, with the epoch of its sweep.
     #[tactic(auto, unfolding(crate::specs::Standing::leader_of), using(crate::proofs::Answering::publish_said, crate::proofs::Answering::publish_after))]
     pub(crate) fn publish(&mut self, user: &mut UserStore) -> Result<Op, NoMemory>
-        ensures op { IfOk result (λ o. o ≡ or_fault (store_of user.old).armed self.old.inv word.Publish (publish_op (store_of user.old) self.old.inv self.old.tx)) }
-        ensures leader { (s : Swept) → OnOk result (leader_of self.new ≡ next_with s (or_fault (store_of user.old).armed self.old.inv word.Publish (publish_op (store_of user.old) self.old.inv self.old.tx)) (leader_of self.old)) }
-        ensures user { OnOk result (store_of user.new ≡ published_at self.old.tx self.old.epoch (store_of user.old)) }
+        ensures op { let u = store_of user.old in
+            IfOk result (λ o. o ≡ or_fault u.armed self.old.inv word.Publish
+            (publish_op u self.old.inv self.old.tx)) }
+        ensures leader { GoesOn result (leader_of self.old) (leader_of self.new) }
+        ensures user { let u = store_of user.old in
+            OnOk result (store_of user.new ≡ published_at self.old.tx self.old.epoch u) }
     {
         let answer = user.publish(self.tx, &self.epoch);
         self.published(answer)
@@ -115,7 +123,7 @@ impl Leader {
     fn published(&mut self, answer: Publish) -> Result<Op, NoMemory>
         ensures some { IfOk result (λ o. answer ≢ publish.NoMemory) }
         ensures op { IfOk result (λ o. o ≡ publish_by self.old.inv self.old.tx answer) }
-        ensures leader { (s : Swept) → OnOk result (leader_of self.new ≡ next_with s (publish_by self.old.inv self.old.tx answer) (leader_of self.old)) }
+        ensures leader { GoesOn result (leader_of self.old) (leader_of self.new) }
     {
         let function = self.inv;
         let tx = self.tx;

@@ -48,10 +48,20 @@ impl Leader {
     /// It sweeps the watches for its push.
     #[tactic(auto, unfolding(crate::specs::Standing::leader_of))]
     pub(crate) fn sweep(&mut self, watches: &mut WatchTable) -> Result<Op, NoMemory>
-        ensures op { (s : Swept) → IsSweepOf self.old.tx (touches_of (leader_of self.old)) (watches_of watches.old) s → IfOk result (λ o. o ≡ or_fault (watches_of watches.old).armed self.old.inv word.Sweep (sweep_op (watches_of watches.old) self.old.inv self.old.tx s.fired)) }
-        ensures leader { (s : Swept) → IsSweepOf self.old.tx (touches_of (leader_of self.old)) (watches_of watches.old) s → OnOk result (leader_of self.new ≡ next_with s (or_fault (watches_of watches.old).armed self.old.inv word.Sweep (sweep_op (watches_of watches.old) self.old.inv self.old.tx s.fired)) (leader_of self.old)) }
-        ensures given { OnOk result (IsSweepOf self.old.tx (touches_of (leader_of self.old)) (watches_of watches.old) (leader_of self.new).swept) }
-        ensures watches { OnOk result (watches_of watches.new ≡ swept_at self.old.tx (touches_of (leader_of self.old)) (watches_of watches.old)) }
+        ensures op { let m = leader_of self.old in
+            let w = watches_of watches.old in
+            (s : Swept) → IsSweepOf m.tx (touches_of m) w s
+            → IfOk result (λ o. o ≡ or_fault w.armed m.inv word.Sweep
+            (sweep_op w m.inv m.tx s.fired)) }
+        ensures leader { let m = leader_of self.old in
+            (s : Swept) → IsSweepOf m.tx (touches_of m) (watches_of watches.old) s
+            → IfOk result (λ o. leader_of self.new ≡ next_with s o m) }
+        ensures given { let m = leader_of self.old in
+            let w = watches_of watches.old in
+            OnOk result (IsSweepOf m.tx (touches_of m) w (leader_of self.new).swept) }
+        ensures watches { let m = leader_of self.old in
+            OnOk result (watches_of watches.new
+            ≡ swept_at m.tx (touches_of m) (watches_of watches.old)) }
     {
         let applied = self.applied()?;
         let touches = touched(self.alloc, &applied)?;
@@ -66,7 +76,8 @@ impl Leader {
         requires { paths.items ≡ paths_of (leader_of self.old) }
         ensures some { IfOk result (λ o. answer ≢ sweep.NoMemory) }
         ensures op { IfOk result (λ o. o ≡ sweep_by self.old.inv self.old.tx answer) }
-        ensures leader { OnOk result (leader_of self.new ≡ next_with (swept_by answer) (sweep_by self.old.inv self.old.tx answer) (leader_of self.old)) }
+        ensures leader { IfOk result (λ o. leader_of self.new
+            ≡ next_with (swept_by answer) o (leader_of self.old)) }
     {
         let function = self.inv;
         let tx = self.tx;
@@ -103,7 +114,8 @@ impl Leader {
     #[tactic(auto, unfolding(crate::specs::Standing::leader_of))]
     fn keep(&mut self, fired: FiredList, epoch: IdSet, paths: VecDeque<Path>)
         requires { paths.items ≡ paths_of (leader_of self.old) }
-        ensures { leader_of self.new ≡ having_swept (record { fired = fired; epoch = epoch }) (leader_of self.old) }
+        ensures { let swept : Swept = record { fired = fired; epoch = epoch } in
+            leader_of self.new ≡ having_swept swept (leader_of self.old) }
     {
         self.fired = fired;
         self.epoch = epoch;

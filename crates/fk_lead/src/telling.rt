@@ -1,4 +1,5 @@
-//! A leader notifies the watches that its push fired, replies to the client, and acknowledges its message.
+//! A leader notifies the watches that its push fired, replies to the client, and acknowledges its
+//! message.
 
 ghost use Rattle.std.specs.Prelude.{◌≡◌, ◌+◌, ◌-◌, ◌<◌, ◌^◌, true, IfOk, OnOk};
 ghost use Rattle.fk_print.specs.declared.op.Op.TheVariants as op;
@@ -15,8 +16,7 @@ ghost use Rattle.fk_wire.specs.NoteText.{note_text};
 ghost use Rattle.fk_wire.specs.Readable.{IsNoteReadable, IsTellReadable};
 ghost use Rattle.fk_wire.specs.TellText.{tell_text};
 ghost use Rattle.fk_wire.specs.declared.version.Version.TheVariants as version;
-ghost use Rattle.fk_lead.specs.Meaning.{Swept};
-ghost use Rattle.fk_lead.specs.Next.{next_with};
+ghost use Rattle.fk_lead.specs.Next.{GoesOn, GoesOnAfter};
 ghost use Rattle.fk_spec.specs.Failing.{or_fault};
 ghost use Rattle.fk_lead.specs.Said.{ack_by};
 ghost use Rattle.fk_queue.specs.Meaning.{posted};
@@ -64,9 +64,12 @@ impl Leader {
         requires tx { IsNumber self.old.tx }
         requires fired { AreLimitedFired self.old.fired }
         requires room { ((post_of post.old).lanes lane.Watch).given < 2 ^ 63 - 1 }
-        ensures op { IfOk result (λ o. o ≡ or_fault (post_of post.old).armed self.old.inv word.Notify (op.Notify self.old.inv self.old.tx (((post_of post.old).lanes lane.Watch).given + 1))) }
-        ensures leader { (s : Swept) → OnOk result (leader_of self.new ≡ next_with s (or_fault (post_of post.old).armed self.old.inv word.Notify (op.Notify self.old.inv self.old.tx (((post_of post.old).lanes lane.Watch).given + 1))) (leader_of self.old)) }
-        ensures post { OnOk result (post_of post.new ≡ posted lane.Watch (note_text version.Two (note_of (leader_of self.old))) (post_of post.old)) }
+        ensures op { let q = post_of post.old in
+            IfOk result (λ o. o ≡ or_fault q.armed self.old.inv word.Notify
+            (op.Notify self.old.inv self.old.tx ((q.lanes lane.Watch).given + 1))) }
+        ensures leader { GoesOn result (leader_of self.old) (leader_of self.new) }
+        ensures post { let text = note_text version.Two (note_of (leader_of self.old)) in
+            OnOk result (post_of post.new ≡ posted lane.Watch text (post_of post.old)) }
         ensures sent { OnOk result (IsNoteReadable (note_of (leader_of self.old))) }
     {
         let note = Note {
@@ -94,10 +97,14 @@ impl Leader {
         requires tx { IsNumber self.old.tx }
         requires k { IsNumber self.old.message.k }
         requires lane { has_lane (post_of post.old) (lane.Inbox self.old.message.session) ≡ true }
-        requires room { ((post_of post.old).lanes (lane.Inbox self.old.message.session)).given < 2 ^ 63 - 1 }
-        ensures op { IfOk result (λ o. o ≡ or_fault (post_of post.old).armed self.old.inv word.Reply (op.Reply self.old.inv self.old.message.session self.old.message.k)) }
-        ensures leader { (s : Swept) → OnOk result (leader_of self.new ≡ next_with s (or_fault (post_of post.old).armed self.old.inv word.Reply (op.Reply self.old.inv self.old.message.session self.old.message.k)) (leader_of self.old)) }
-        ensures post { OnOk result (post_of post.new ≡ posted (lane.Inbox self.old.message.session) (tell_text version.Two (reply_tell self.old.tx self.old.message)) (post_of post.old)) }
+        requires room { let inbox = lane.Inbox self.old.message.session in
+            ((post_of post.old).lanes inbox).given < 2 ^ 63 - 1 }
+        ensures op { IfOk result (λ o. o ≡ or_fault (post_of post.old).armed self.old.inv word.Reply
+            (op.Reply self.old.inv self.old.message.session self.old.message.k)) }
+        ensures leader { GoesOn result (leader_of self.old) (leader_of self.new) }
+        ensures post { let inbox = lane.Inbox self.old.message.session in
+            let text = tell_text version.Two (reply_tell self.old.tx self.old.message) in
+            OnOk result (post_of post.new ≡ posted inbox text (post_of post.old)) }
         ensures sent { OnOk result (IsTellReadable (reply_tell self.old.tx self.old.message)) }
     {
         let tell = reply_tell(self.tx, &self.message)?;
@@ -121,9 +128,12 @@ impl Leader {
     /// It removes its message, where that is its lane's head, and ends.
     #[tactic(auto, unfolding(crate::specs::Standing::leader_of), using(crate::proofs::Answering::ack_said))]
     pub(crate) fn ack(&mut self, post: &mut Post) -> Op
-        ensures op { result ≡ or_fault (post_of post.old).armed self.old.inv word.Ack (ack_op self.old.inv self.old.tx (head_number ((post_of post.old).lanes lane.Leader))) }
-        ensures leader { (s : Swept) → leader_of self.new ≡ next_with s (or_fault (post_of post.old).armed self.old.inv word.Ack (ack_op self.old.inv self.old.tx (head_number ((post_of post.old).lanes lane.Leader)))) (leader_of self.old) }
-        ensures post { post_of post.new ≡ after_ack (post_of post.old) lane.Leader (ack_of (post_of post.old) lane.Leader self.old.tx) }
+        ensures op { let q = post_of post.old in
+            result ≡ or_fault q.armed self.old.inv word.Ack
+            (ack_op self.old.inv self.old.tx (head_number (q.lanes lane.Leader))) }
+        ensures leader { GoesOnAfter result (leader_of self.old) (leader_of self.new) }
+        ensures post { let q = post_of post.old in
+            post_of post.new ≡ after_ack q lane.Leader (ack_of q lane.Leader self.old.tx) }
     {
         let answer = post.ack(Lane::Leader, self.tx);
         self.acked(answer)
@@ -132,7 +142,7 @@ impl Leader {
     #[tactic(auto, unfolding(crate::specs::Standing::leader_of))]
     fn acked(&mut self, answer: Ack) -> Op
         ensures op { result ≡ ack_by self.old.inv answer }
-        ensures leader { (s : Swept) → leader_of self.new ≡ next_with s (ack_by self.old.inv answer) (leader_of self.old) }
+        ensures leader { GoesOnAfter result (leader_of self.old) (leader_of self.new) }
     {
         self.state = State::Ended;
         match answer {

@@ -3,6 +3,7 @@ pub mod Beating
 pub mod BeatingFit
 pub mod BeatingSaid
 pub mod BeatingStanding
+pub mod BeatingSteps
 pub mod Index
 pub mod Kept
 pub mod Listing
@@ -11,6 +12,7 @@ pub mod Moving
 pub mod Notes
 pub mod OneList
 pub mod Registering
+pub mod Services
 pub mod Setting
 pub mod Sound
 pub mod Sweeping
@@ -18,4 +20,5 @@ pub mod Table
 pub mod Telling
 pub mod TellingFit
 pub mod TellingStanding
+pub mod TellingSteps
 pub mod Touched

@@ -25,7 +25,8 @@ pub enum Sweep {
         fired: FiredList,
         epoch: IdSet,
     },
-    /// The greatest swept transaction is not below this one, whose watches that aren't told are `fired`.
+    /// The greatest swept transaction is not below this one, whose watches that aren't told are
+    /// `fired`.
     Already {
         swept: u64,
         fired: FiredList,

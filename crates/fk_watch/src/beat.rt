@@ -17,9 +17,10 @@ ghost use Rattle.fk_wire.specs.SentText.{IsSent, sent_text};
 ghost use Rattle.fk_wire.specs.TellText.{IsTell, tell_text};
 ghost use Rattle.fk_wire.specs.declared.message.Tell.TheVariants as tell;
 ghost use Rattle.fk_wire.specs.declared.version.Version.TheVariants as version;
-ghost use Rattle.fk_watch.specs.Beating.{after_step, evict_sent, going_to, is_ended, next_with, note_conds, note_op, note_writes, post_after_step, probe_op, started, step_op, table_after_step};
-ghost use Rattle.fk_watch.specs.BeatingFit.{IsFit, IsReadable};
+ghost use Rattle.fk_watch.specs.Beating.{evict_sent, going_to, is_ended, next_with, note_conds, note_op, note_writes, probe_op, started};
+ghost use Rattle.fk_watch.specs.BeatingFit.{IsFit};
 ghost use Rattle.fk_watch.specs.BeatingStanding.{beat_of};
+ghost use Rattle.fk_watch.specs.BeatingSteps.{Steps, services_of};
 ghost use Rattle.fk_watch.specs.BeatingSaid.{note_by};
 
 use fk_base::NoMemory;
@@ -40,8 +41,8 @@ pub enum BeatState {
     Ended,
 }
 
-/// A function that pings a session, or evicts it where it didn't answer in time: it makes one operation
-/// per step, on the services that it is lent.
+/// A function that pings a session, or evicts it where it didn't answer in time: it makes one
+/// operation per step, on the services that it is lent.
 #[derive(Drop)]
 pub struct Beat {
     alloc: Global,
@@ -82,9 +83,9 @@ impl Beat {
         }
     }
 
-    /// Makes the operation before which it stands, with one call of one of the services, and gives its
-    /// line; a ping is late once `beat` has passed. After `NoMemory` neither the heartbeat nor the
-    /// services are to be used further.
+    /// Makes the operation before which it stands, with one call of one of the services, and gives
+    /// its line; a ping is late once `beat` has passed. After `NoMemory` neither the heartbeat nor
+    /// the services are to be used further.
     #[tactic(auto, unfolding(crate::specs::BeatingStanding::beat_of))]
     pub fn step<T: Table>(
         &mut self,
@@ -94,11 +95,10 @@ impl Beat {
         beat: u64,
     ) -> Result<Op, NoMemory>
         requires { IsFit (T.meaning table.old) (post_of post.old) (beat_of self.old) }
-        ensures op { IfOk result (λ o. o ≡ step_op (T.meaning table.old) (post_of post.old) now beat (beat_of self.old)) }
-        ensures heartbeat { OnOk result (beat_of self.new ≡ after_step (T.meaning table.old) (post_of post.old) now beat (beat_of self.old)) }
-        ensures table { OnOk result (T.meaning table.new ≡ table_after_step (T.meaning table.old) now (beat_of self.old)) }
-        ensures post { OnOk result (post_of post.new ≡ post_after_step (post_of post.old) (beat_of self.old)) }
-        ensures readable { OnOk result (IsReadable (beat_of self.old).inv (beat_of self.old).stage) }
+        ensures { IfOk result (λ o. Steps
+            (services_of (T.meaning table.old) post.old)
+            (services_of (T.meaning table.new) post.new)
+            (beat_of self.old) (beat_of self.new) now beat o) }
     {
         match self.state {
             BeatState::Probe => Ok(self.probe(table, now, beat)),
@@ -128,8 +128,10 @@ impl Beat {
     #[tactic(auto, unfolding(crate::specs::BeatingStanding::beat_of))]
     fn probe<T: Table>(&mut self, table: &mut T, now: u64, beat: u64) -> Op
         requires { is_some ((T.meaning table.old).sessions self.old.session) ≡ true }
-        ensures op { result ≡ or_fault (T.meaning table.old).armed self.old.inv word.Probe (probe_op self.old.inv now beat (session_of (T.meaning table.old) self.old.session)) }
-        ensures heartbeat { beat_of self.new ≡ next_with (or_fault (T.meaning table.old).armed self.old.inv word.Probe (probe_op self.old.inv now beat (session_of (T.meaning table.old) self.old.session))) (beat_of self.old) }
+        ensures op { let t = T.meaning table.old in
+            result ≡ or_fault t.armed self.old.inv word.Probe
+            (probe_op self.old.inv now beat (session_of t self.old.session)) }
+        ensures heartbeat { beat_of self.new ≡ next_with result (beat_of self.old) }
         ensures table { T.meaning table.new ≡ called (T.meaning table.old) }
     {
         match table.session(self.session) {
@@ -143,7 +145,7 @@ impl Beat {
     #[tactic(auto, unfolding(crate::specs::BeatingStanding::beat_of))]
     fn probed(&mut self, kept: &SessionRecord, now: u64, beat: u64) -> Op
         ensures op { result ≡ probe_op self.old.inv now beat kept.now }
-        ensures heartbeat { beat_of self.new ≡ next_with (probe_op self.old.inv now beat kept.now) (beat_of self.old) }
+        ensures heartbeat { beat_of self.new ≡ next_with result (beat_of self.old) }
     {
         let function = self.inv;
         self.state = BeatState::Ended;
@@ -172,10 +174,14 @@ impl Beat {
     fn ping(&mut self, post: &mut Post) -> Result<Op, NoMemory>
         requires inv { IsNumber self.old.inv }
         requires lane { has_lane (post_of post.old) (lane.Inbox self.old.session) ≡ true }
-        requires room { ((post_of post.old).lanes (lane.Inbox self.old.session)).given < 2 ^ 63 - 1 }
-        ensures op { IfOk result (λ o. o ≡ or_fault (post_of post.old).armed self.old.inv word.Ping (op.Ping self.old.inv self.old.session)) }
-        ensures heartbeat { OnOk result (beat_of self.new ≡ next_with (or_fault (post_of post.old).armed self.old.inv word.Ping (op.Ping self.old.inv self.old.session)) (beat_of self.old)) }
-        ensures post { OnOk result (post_of post.new ≡ posted (lane.Inbox self.old.session) (tell_text version.Two (tell.Ping self.old.inv)) (post_of post.old)) }
+        requires room { let inbox = (post_of post.old).lanes (lane.Inbox self.old.session) in
+            inbox.given < 2 ^ 63 - 1 }
+        ensures op { IfOk result (λ o. o ≡ or_fault (post_of post.old).armed self.old.inv word.Ping
+            (op.Ping self.old.inv self.old.session)) }
+        ensures heartbeat { IfOk result (λ o. beat_of self.new ≡ next_with o (beat_of self.old)) }
+        ensures post { let text = tell_text version.Two (tell.Ping self.old.inv) in
+            OnOk result (post_of post.new
+            ≡ posted (lane.Inbox self.old.session) text (post_of post.old)) }
         ensures readable { OnOk result (IsTell (tell.Ping self.old.inv)) }
     {
         let text = encode_tell(self.alloc, &Tell::Ping(self.inv))?;
@@ -196,9 +202,13 @@ impl Beat {
     #[tactic(auto, unfolding(crate::specs::BeatingStanding::beat_of), using(crate::proofs::BeatingAnswers::note_said, fk_settle::proofs::Verdicts::transacted_is))]
     fn note<T: Table>(&mut self, table: &mut T, now: u64) -> Result<Op, NoMemory>
         requires { is_some ((T.meaning table.old).sessions self.old.session) ≡ true }
-        ensures op { IfOk result (λ o. o ≡ or_fault (T.meaning table.old).armed self.old.inv word.Note (note_op self.old.inv (session_of (T.meaning table.old) self.old.session))) }
-        ensures heartbeat { OnOk result (beat_of self.new ≡ next_with (or_fault (T.meaning table.old).armed self.old.inv word.Note (note_op self.old.inv (session_of (T.meaning table.old) self.old.session))) (beat_of self.old)) }
-        ensures table { OnOk result (T.meaning table.new ≡ transacted (note_conds self.old.inv self.old.session) (note_writes self.old.inv self.old.session now) (T.meaning table.old)) }
+        ensures op { let t = T.meaning table.old in
+            IfOk result (λ o. o ≡ or_fault t.armed self.old.inv word.Note
+            (note_op self.old.inv (session_of t self.old.session))) }
+        ensures heartbeat { IfOk result (λ o. beat_of self.new ≡ next_with o (beat_of self.old)) }
+        ensures table { let conds = note_conds self.old.inv self.old.session in
+            let writes = note_writes self.old.inv self.old.session now in
+            OnOk result (T.meaning table.new ≡ transacted conds writes (T.meaning table.old)) }
     {
         let session = self.session;
         let n = self.inv;
@@ -217,7 +227,7 @@ impl Beat {
     fn noted(&mut self, answer: Transact) -> Result<Op, NoMemory>
         ensures some { IfOk result (λ o. answer ≢ transact.NoMemory) }
         ensures op { IfOk result (λ o. o ≡ note_by self.old.inv answer) }
-        ensures heartbeat { OnOk result (beat_of self.new ≡ going_to stage.Ended (beat_of self.old)) }
+        ensures heartbeat { IfOk result (λ o. beat_of self.new ≡ next_with o (beat_of self.old)) }
     {
         let function = self.inv;
         self.state = BeatState::Ended;
@@ -243,10 +253,16 @@ impl Beat {
     #[tactic(auto, unfolding(crate::specs::BeatingStanding::beat_of))]
     fn evict(&mut self, post: &mut Post) -> Result<Op, NoMemory>
         requires lane { has_lane (post_of post.old) (lane.Session self.old.session) ≡ true }
-        requires room { ((post_of post.old).lanes (lane.Session self.old.session)).given < 2 ^ 63 - 1 }
-        ensures op { IfOk result (λ o. o ≡ or_fault (post_of post.old).armed self.old.inv word.Evict (op.Evict self.old.inv (((post_of post.old).lanes (lane.Session self.old.session)).given + 1))) }
-        ensures heartbeat { OnOk result (beat_of self.new ≡ next_with (or_fault (post_of post.old).armed self.old.inv word.Evict (op.Evict self.old.inv (((post_of post.old).lanes (lane.Session self.old.session)).given + 1))) (beat_of self.old)) }
-        ensures post { OnOk result (post_of post.new ≡ posted (lane.Session self.old.session) (sent_text version.Two evict_sent) (post_of post.old)) }
+        requires room { let requests = (post_of post.old).lanes (lane.Session self.old.session) in
+            requests.given < 2 ^ 63 - 1 }
+        ensures op { let q = post_of post.old in
+            let requests = q.lanes (lane.Session self.old.session) in
+            IfOk result (λ o. o ≡ or_fault q.armed self.old.inv word.Evict
+            (op.Evict self.old.inv (requests.given + 1))) }
+        ensures heartbeat { IfOk result (λ o. beat_of self.new ≡ next_with o (beat_of self.old)) }
+        ensures post { let text = sent_text version.Two evict_sent in
+            OnOk result (post_of post.new
+            ≡ posted (lane.Session self.old.session) text (post_of post.old)) }
         ensures readable { OnOk result (IsSent evict_sent) }
     {
         let message = Sent {

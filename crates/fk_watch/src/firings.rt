@@ -1,10 +1,10 @@
 //! The watches that fired and aren't told.
 
-ghost use Rattle.std.specs.Prelude.{◌≡◌, ℕ, ◌==◌, true, if◌then◌else◌, OnOk};
+ghost use Rattle.std.specs.Prelude.{◌≡◌, ℕ, true, OnOk};
 ghost use Rattle.std.specs.BTreeMap.{values, IsOrdered};
 ghost use Rattle.std.specs.Ordering.{nat_cmp};
 ghost use Rattle.fk_tree.specs.Watch.{takes};
-ghost use Rattle.fk_watch.specs.Moving.{fired_among, fired_by, numbers_on, AreOrdered, KeepsOthers};
+ghost use Rattle.fk_watch.specs.Moving.{fired_on, numbers_on, AreOrdered, FiresAmong, FiresNumber, KeepsOthers};
 ghost use Rattle.fk_watch.specs.Setting.{at};
 ghost use Rattle.fk_watch.specs.Sweeping.{not_of};
 
@@ -25,7 +25,8 @@ fn fire_number(
     tx: u64,
     change: Change,
 ) -> Result<(), NoMemory>
-    ensures ok { OnOk result ((n : ℕ) → at n fired.new.entries ≡ (if n == number then fired_by tx change (at n watches.now.entries) (at n fired.old.entries) else at n fired.old.entries)) }
+    ensures ok { OnOk result (FiresNumber tx change number
+        watches.now.entries fired.old.entries fired.new.entries) }
     ensures kept { KeepsOthers tx watches.now.entries fired.old.entries fired.new.entries }
 {
     let Some(watch) = watches.get(&number) else {
@@ -50,7 +51,8 @@ fn fire_numbers(
     tx: u64,
     change: Change,
 ) -> Result<(), NoMemory>
-    ensures ok { OnOk result ((n : ℕ) → at n fired.new.entries ≡ fired_among tx change watches.now.entries (values numbers.now) n (at n fired.old.entries)) }
+    ensures ok { OnOk result (FiresAmong tx change (values numbers.now)
+        watches.now.entries fired.old.entries fired.new.entries) }
     ensures kept { KeepsOthers tx watches.now.entries fired.old.entries fired.new.entries }
     ensures ordered { IsOrdered nat_cmp numbers.now }
 {
@@ -69,7 +71,8 @@ fn fire_path(
     tx: u64,
     change: Change,
 ) -> Result<(), NoMemory>
-    ensures ok { OnOk result ((n : ℕ) → at n fired.new.entries ≡ fired_among tx change watches.now.entries (numbers_on path.now index.now) n (at n fired.old.entries)) }
+    ensures ok { OnOk result (FiresAmong tx change (numbers_on path.now index.now)
+        watches.now.entries fired.old.entries fired.new.entries) }
     ensures kept { KeepsOthers tx watches.now.entries fired.old.entries fired.new.entries }
     ensures ordered { AreOrdered path.now index.now }
 {
@@ -88,7 +91,8 @@ pub fn fire_kind(
     touch: &Touch,
     tx: u64,
 ) -> Result<(), NoMemory>
-    ensures ok { OnOk result ((n : ℕ) → at n fired.new.entries ≡ (if takes kind touch.now.change then fired_among tx touch.now.change watches.now.entries (numbers_on touch.now.path index.now) n (at n fired.old.entries) else at n fired.old.entries)) }
+    ensures ok { OnOk result ((n : ℕ) → at n fired.new.entries
+        ≡ fired_on tx kind touch.now watches.now.entries index.now n (at n fired.old.entries)) }
     ensures kept { KeepsOthers tx watches.now.entries fired.old.entries fired.new.entries }
     ensures ordered { takes kind touch.now.change ≡ true → AreOrdered touch.now.path index.now }
 {

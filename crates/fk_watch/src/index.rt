@@ -1,8 +1,7 @@
 //! The numbers of watches by their paths and sessions.
 
-ghost use Rattle.std.specs.Prelude.{◌≡◌, ℕ, ◌==◌, ◌&&◌, true, None, Some, if◌then◌else◌, OnOk, OnErr};
-ghost use Rattle.fk_base.specs.Path.{PathNames, same_path};
-ghost use Rattle.fk_watch.specs.Index.{has_place, number_in, KeepsNumbers};
+ghost use Rattle.std.specs.Prelude.{◌≡◌, true, None, Some, OnOk, OnErr};
+ghost use Rattle.fk_watch.specs.Index.{has_place, number_in, KeepsNumbers, SetsNumber};
 
 use fk_base::{NoMemory, Path};
 use std::alloc::Global;
@@ -35,7 +34,7 @@ fn add_place(alloc: Global, index: &mut Index, path: &Path) -> Result<(), NoMemo
 // puts a number where the path has a place
 fn put_number(index: &mut Index, path: &Path, session: u32, number: u64) -> Result<(), NoMemory>
     requires { has_place path.now index.old ≡ true }
-    ensures ok { OnOk result ((p : PathNames) (s : ℕ) → number_in index.new p s ≡ (if same_path p path.now && (s == session) then Some number else number_in index.old p s)) }
+    ensures ok { OnOk result (SetsNumber path.now session (Some number) index.old index.new) }
     ensures err { OnErr result (KeepsNumbers index.old index.new) }
 {
     match index.get_mut(path) {
@@ -54,7 +53,7 @@ pub fn add_number(
     session: u32,
     number: u64,
 ) -> Result<(), NoMemory>
-    ensures ok { OnOk result ((p : PathNames) (s : ℕ) → number_in index.new p s ≡ (if same_path p path.now && (s == session) then Some number else number_in index.old p s)) }
+    ensures ok { OnOk result (SetsNumber path.now session (Some number) index.old index.new) }
     ensures err { OnErr result (KeepsNumbers index.old index.new) }
 {
     add_place(alloc, index, path)?;
@@ -62,7 +61,7 @@ pub fn add_number(
 }
 
 pub fn drop_number(index: &mut Index, path: &Path, session: u32)
-    ensures { (p : PathNames) (s : ℕ) → number_in index.new p s ≡ (if same_path p path.now && (s == session) then None else number_in index.old p s) }
+    ensures { SetsNumber path.now session None index.old index.new }
 {
     if let Some(numbers) = index.get_mut(path) {
         numbers.remove(&session);

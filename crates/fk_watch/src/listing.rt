@@ -42,7 +42,8 @@ fn list_one(list: &mut FiredList, number: u64, firing: &Firing, tx: u64) -> Resu
 // the watches that a transaction fired, in rising number.
 fn fired_by(alloc: Global, fired: &Firings, tx: u64) -> Result<FiredList, NoMemory>
     ensures rising { IfOk result (λ fs. ids_rise (ids_of fs) ≡ true) }
-    ensures exact { IfOk result (λ fs. (n : ℕ) → fired_with n fs ≡ listed n (only_of tx (at n fired.now.entries))) }
+    ensures exact { IfOk result (λ fs. (n : ℕ)
+        → fired_with n fs ≡ listed n (only_of tx (at n fired.now.entries))) }
 {
     let mut list = FiredList::new(alloc);
     'listing: for (number, firing) in fired {

@@ -1,10 +1,9 @@
 //! The set watches, found by their numbers, and by path, kind and session.
 
-ghost use Rattle.std.specs.Prelude.{◌≡◌, ◌∷◌, [], ℕ, ◌==◌, ◌&&◌, None, Some, if◌then◌else◌, IfNone, IfSome, OnErr, OnOk};
-ghost use Rattle.fk_base.specs.Path.{PathNames};
+ghost use Rattle.std.specs.Prelude.{◌≡◌, [], ℕ, None, Some, IfNone, IfSome, OnErr, OnOk};
 ghost use Rattle.fk_tree.specs.declared.change.Kind.{Kind};
 ghost use Rattle.fk_watch.specs.Moving.{touched_by, KeepsOthers};
-ghost use Rattle.fk_watch.specs.Setting.{at, is_watch, numbered, HasNot};
+ghost use Rattle.fk_watch.specs.Setting.{at, watch_on, HasNot, KeepsNumbered, SetsAt, SetsNumbered};
 
 use crate::firings::{Firings, fire_kind};
 use crate::index::{Index, add_number, drop_number, number_in};
@@ -43,8 +42,10 @@ fn add_watch(
     watch: &Watch,
     number: u64,
 ) -> Result<(), NoMemory>
-    ensures ok { OnOk result ((k : Kind) (p : PathNames) (s : ℕ) → numbered on_data.new on_child.new k p s ≡ (if is_watch k p s watch.now then Some number else numbered on_data.old on_child.old k p s)) }
-    ensures err { OnErr result ((k : Kind) (p : PathNames) (s : ℕ) → numbered on_data.new on_child.new k p s ≡ numbered on_data.old on_child.old k p s) }
+    ensures ok { OnOk result (SetsNumbered watch.now (Some number)
+        on_data.old on_child.old on_data.new on_child.new) }
+    ensures err { OnErr result (KeepsNumbered
+        on_data.old on_child.old on_data.new on_child.new) }
 {
     match watch.kind {
         Kind::Data => add_number(alloc, on_data, &watch.path, watch.session, number),
@@ -54,7 +55,7 @@ fn add_watch(
 
 // forgets the number of a watch
 fn drop_watch(on_data: &mut Index, on_child: &mut Index, watch: &Watch)
-    ensures { (k : Kind) (p : PathNames) (s : ℕ) → numbered on_data.new on_child.new k p s ≡ (if is_watch k p s watch.now then None else numbered on_data.old on_child.old k p s) }
+    ensures { SetsNumbered watch.now None on_data.old on_child.old on_data.new on_child.new }
 {
     match watch.kind {
         Kind::Data => drop_number(on_data, &watch.path, watch.session),
@@ -75,8 +76,8 @@ impl SetWatches {
 
     /// The number of a session's watch of a path and kind.
     pub fn number_of(&self, session: u32, path: &Path, kind: Kind) -> Option<u64>
-        ensures some { IfSome result (λ n. at n self.now ≡ Some (record { session = session; path = path.now; kind = kind })) }
-        ensures none { IfNone result (HasNot (record { session = session; path = path.now; kind = kind }) self.now) }
+        ensures some { IfSome result (λ n. at n self.now ≡ Some (watch_on session path.now kind)) }
+        ensures none { IfNone result (HasNot (watch_on session path.now kind) self.now) }
     {
         match kind {
             Kind::Data => number_in(&self.on_data, path, session),
@@ -88,7 +89,7 @@ impl SetWatches {
     pub fn add(&mut self, alloc: Global, number: u64, watch: Watch) -> Result<(), NoMemory>
         requires free { at number self.old ≡ None }
         requires new { HasNot watch self.old }
-        ensures ok { OnOk result ((n : ℕ) → at n self.new ≡ (if n == number then Some watch else at n self.old)) }
+        ensures ok { OnOk result (SetsAt number (Some watch) self.old self.new) }
         ensures err { OnErr result (self.new ≡ self.old) }
     {
         add_watch(alloc, &mut self.on_data, &mut self.on_child, &watch, number)?;
@@ -104,7 +105,7 @@ impl SetWatches {
 
     /// Takes a watch out.
     pub fn remove(&mut self, number: u64)
-        ensures { (n : ℕ) → at n self.new ≡ (if n == number then None else at n self.old) }
+        ensures { SetsAt number None self.old self.new }
     {
         if let Some(watch) = self.watches.remove(&number) {
             drop_watch(&mut self.on_data, &mut self.on_child, &watch);
@@ -113,7 +114,8 @@ impl SetWatches {
 
     /// The watches that a touch fires do so, beside what had fired.
     pub fn fire(&self, fired: &mut Firings, touch: &Touch, tx: u64) -> Result<(), NoMemory>
-        ensures ok { OnOk result ((n : ℕ) → at n fired.new.entries ≡ touched_by tx touch.now (at n self.now) (at n fired.old.entries)) }
+        ensures ok { OnOk result ((n : ℕ) → at n fired.new.entries
+            ≡ touched_by tx touch.now (at n self.now) (at n fired.old.entries)) }
         ensures kept { KeepsOthers tx self.now fired.old.entries fired.new.entries }
     {
         fire_kind(fired, &self.watches, &self.on_data, Kind::Data, touch, tx)?;

@@ -1,6 +1,6 @@
 //! The last sweep of each path.
 
-ghost use Rattle.std.specs.Prelude.{◌≡◌, ℕ, true, if◌then◌else◌, OnOk};
+ghost use Rattle.std.specs.Prelude.{◌≡◌, true, if◌then◌else◌, OnOk};
 ghost use Rattle.fk_base.specs.Path.{PathNames, same_path};
 ghost use Rattle.fk_tree.specs.Watch.{has_touch};
 ghost use Rattle.fk_watch.specs.Kept.{last_in};
@@ -49,7 +49,8 @@ pub fn add_places(sweeps: &mut Sweeps, touches: &[Touch]) -> Result<(), NoMemory
 // the last sweep of a path that has a place
 fn put(sweeps: &mut Sweeps, path: &Path, tx: u64)
     requires { has_sweep path.now sweeps.old.entries ≡ true }
-    ensures lasts { (p : PathNames) → last_in p sweeps.new.entries ≡ (if same_path path.now p then tx else last_in p sweeps.old.entries) }
+    ensures lasts { (p : PathNames) → last_in p sweeps.new.entries
+        ≡ (if same_path path.now p then tx else last_in p sweeps.old.entries) }
     ensures places { KeepsPlaces sweeps.old.entries sweeps.new.entries }
 {
     if let Some(last) = sweeps.get_mut(path) {
@@ -60,7 +61,8 @@ fn put(sweeps: &mut Sweeps, path: &Path, tx: u64)
 /// The last sweep of each touched path.
 pub fn put_all(sweeps: &mut Sweeps, touches: &[Touch], tx: u64)
     requires { HaveSweeps touches.now sweeps.old.entries }
-    ensures { (p : PathNames) → last_in p sweeps.new.entries ≡ (if has_touch p touches.now then tx else last_in p sweeps.old.entries) }
+    ensures { (p : PathNames) → last_in p sweeps.new.entries
+        ≡ (if has_touch p touches.now then tx else last_in p sweeps.old.entries) }
 {
     'putting: for touch in touches {
         put(sweeps, &touch.path, tx);

@@ -1,15 +1,14 @@
 //! The table of watches.
 
-ghost use Rattle.std.specs.Prelude.{◌≡◌, ◌<◌, ◌≤◌, ◌^◌, ◌+◌, ◌-◌, ℕ, false, None, Some, if◌then◌else◌, is_some, IfOk, OnErr, OnOk};
-ghost use Rattle.fk_base.specs.Path.{PathNames};
+ghost use Rattle.std.specs.Prelude.{◌≡◌, ◌<◌, ◌^◌, ◌+◌, ◌-◌, ℕ, false, None, Some, if◌then◌else◌, is_some, IfOk, OnErr, OnOk};
 ghost use Rattle.fk_watch.specs.Answers.{after_register, after_sweep, after_told, fired_with, AreFired, IsEpoch, IsRegister, IsSweep, IsTold};
 ghost use Rattle.fk_watch.specs.Kept.{watches_of};
 ghost use Rattle.fk_watch.specs.Meaning.{armed, calmed, failed, new_watches};
-ghost use Rattle.fk_watch.specs.Moving.{KeepsOthers};
+ghost use Rattle.fk_watch.specs.Moving.{FiresAll, KeepsOthers};
 ghost use Rattle.fk_watch.specs.Registering.{with_watch, IsUnset};
-ghost use Rattle.fk_watch.specs.Setting.{at};
+ghost use Rattle.fk_watch.specs.Setting.{at, watch_on};
 ghost use Rattle.fk_watch.specs.Sound.{IsSound};
-ghost use Rattle.fk_watch.specs.Sweeping.{fires, or_else, swept_for};
+ghost use Rattle.fk_watch.specs.Sweeping.{swept_for};
 ghost use Rattle.fk_watch.specs.Touched.{HaveSweeps, KeepsLasts};
 
 use crate::answer::{Register, Sweep, Told};
@@ -25,9 +24,9 @@ use std::alloc::Global;
 use std::collections::BTreeMap;
 use std::marker::Model;
 
-/// The watches: how many numbers were given, which are set, which have fired and aren't told, what was
-/// swept, and the last sweep of each path. A call that may fail answers `Failed` exactly where the table
-/// is armed; it then changes nothing else, raises the count of faults and calms the table.
+/// The watches: how many numbers were given, which are set, which have fired and aren't told, what
+/// was swept, and the last sweep of each path. A call that may fail answers `Failed` exactly where
+/// the table is armed; it then changes nothing else, raises the count of faults and calms the table.
 #[derive(Drop)]
 pub struct WatchTable {
     alloc: Global,
@@ -60,7 +59,7 @@ fn fire_all(
     touches: &[Touch],
     tx: u64,
 ) -> Result<(), NoMemory>
-    ensures ok { OnOk result ((n : ℕ) → at n fired.new.entries ≡ or_else (fires tx touches.now (at n set.now)) (at n fired.old.entries)) }
+    ensures ok { OnOk result (FiresAll tx touches.now set.now fired.old.entries fired.new.entries) }
     ensures kept { KeepsOthers tx set.now fired.old.entries fired.new.entries }
 {
     // the last touch first, so that the first one stays
@@ -81,7 +80,7 @@ fn prepare(
     tx: u64,
     touches: &[Touch],
 ) -> Result<Lists, NoMemory>
-    ensures ok { OnOk result ((n : ℕ) → at n fired.new.entries ≡ or_else (fires tx touches.now (at n set.now)) (at n fired.old.entries)) }
+    ensures ok { OnOk result (FiresAll tx touches.now set.now fired.old.entries fired.new.entries) }
     ensures kept { KeepsOthers tx set.now fired.old.entries fired.new.entries }
     ensures fired { IfOk result (λ l. AreFired tx (λ n. at n fired.new.entries) l.fired) }
     ensures epoch { IfOk result (λ l. IsEpoch (λ n. at n fired.new.entries) l.epoch) }
@@ -95,7 +94,8 @@ fn prepare(
 
 // these watches aren't set any more
 fn unset(set: &mut SetWatches, list: &[Fired])
-    ensures { (n : ℕ) → at n set.new ≡ (if is_some (fired_with n list.now) then None else at n set.old) }
+    ensures { (n : ℕ) → at n set.new
+        ≡ (if is_some (fired_with n list.now) then None else at n set.old) }
 {
     'moving: for fired in list {
         set.remove(fired.id);
@@ -129,12 +129,14 @@ impl WatchTable {
         self.given
     }
 
-    /// The number of a session's watch of a path and kind, which is set if it isn't yet, unless a sweep
-    /// beyond the mark touched the path. May fail.
+    /// The number of a session's watch of a path and kind, which is set if it isn't yet, unless a
+    /// sweep beyond the mark touched the path. May fail.
     pub fn register(&mut self, session: u32, path: &Path, kind: Kind, mark: u64) -> Register
         requires { (watches_of self.old).given < 2 ^ 63 - 1 }
-        ensures answer { IsRegister (watches_of self.old) (record { session = session; path = path.now; kind = kind }) mark result }
-        ensures after { watches_of self.new ≡ after_register (watches_of self.old) (record { session = session; path = path.now; kind = kind }) result }
+        ensures answer { let watch = watch_on session path.now kind in
+            IsRegister (watches_of self.old) watch mark result }
+        ensures after { let watch = watch_on session path.now kind in
+            watches_of self.new ≡ after_register (watches_of self.old) watch result }
         ensures sound { IsSound (watches_of self.new) }
     {
         if self.fails() {
@@ -153,11 +155,12 @@ impl WatchTable {
         }
     }
 
-    /// Fires the set watches that the touches of a transaction fire, unless it or a later one was swept.
-    /// May fail.
+    /// Fires the set watches that the touches of a transaction fire, unless it or a later one was
+    /// swept. May fail.
     pub fn sweep(&mut self, tx: u64, touches: &Touches) -> Sweep
         ensures answer { IsSweep (watches_of self.old) tx touches.now result }
-        ensures after { watches_of self.new ≡ after_sweep (watches_of self.old) tx touches.now result }
+        ensures after { watches_of self.new
+            ≡ after_sweep (watches_of self.old) tx touches.now result }
         ensures sound { IsSound (watches_of self.new) }
     {
         if self.fails() {
@@ -222,7 +225,8 @@ impl WatchTable {
     // whether this call fails
     fn fails(&mut self) -> bool
         ensures answer { result ≡ (watches_of self.old).armed }
-        ensures after { watches_of self.new ≡ (if result then failed (watches_of self.old) else watches_of self.old) }
+        ensures after { watches_of self.new
+            ≡ (if result then failed (watches_of self.old) else watches_of self.old) }
         ensures same { result ≡ false → self.new ≡ self.old }
         ensures sound { IsSound (watches_of self.new) }
     {
@@ -237,9 +241,11 @@ impl WatchTable {
     // sets a watch under the next number
     fn add(&mut self, session: u32, path: &Path, kind: Kind) -> Result<u64, NoMemory>
         requires room { (watches_of self.old).given < 2 ^ 63 - 1 }
-        requires new { IsUnset (record { session = session; path = path.now; kind = kind }) (watches_of self.old) }
+        requires new { IsUnset (watch_on session path.now kind) (watches_of self.old) }
         ensures number { IfOk result (λ n. n ≡ (watches_of self.old).given + 1) }
-        ensures ok { OnOk result (watches_of self.new ≡ with_watch (record { session = session; path = path.now; kind = kind }) ((watches_of self.old).given + 1) (watches_of self.old)) }
+        ensures ok { let old = watches_of self.old in
+            OnOk result (watches_of self.new
+            ≡ with_watch (watch_on session path.now kind) (old.given + 1) old) }
         ensures err { OnErr result (watches_of self.new ≡ watches_of self.old) }
         ensures sound { IsSound (watches_of self.new) }
     {
@@ -257,9 +263,12 @@ impl WatchTable {
     // fires what the touches of the next transaction fire
     fn fire(&mut self, tx: u64, touches: &[Touch]) -> Result<Lists, NoMemory>
         requires { (watches_of self.old).swept < tx }
-        ensures fired { IfOk result (λ l. AreFired tx (swept_for tx touches.now (watches_of self.old)).fired l.fired) }
-        ensures epoch { IfOk result (λ l. IsEpoch (swept_for tx touches.now (watches_of self.old)).fired l.epoch) }
-        ensures ok { OnOk result (watches_of self.new ≡ swept_for tx touches.now (watches_of self.old)) }
+        ensures fired { let after = swept_for tx touches.now (watches_of self.old) in
+            IfOk result (λ l. AreFired tx after.fired l.fired) }
+        ensures epoch { let after = swept_for tx touches.now (watches_of self.old) in
+            IfOk result (λ l. IsEpoch after.fired l.epoch) }
+        ensures ok { OnOk result (watches_of self.new
+            ≡ swept_for tx touches.now (watches_of self.old)) }
         ensures err { OnErr result (watches_of self.new ≡ watches_of self.old) }
         ensures sound { IsSound (watches_of self.new) }
     {

@@ -1,6 +1,6 @@
 //! The watch function.
 
-ghost use Rattle.std.specs.Prelude.{◌≡◌, ◌+◌, ◌<◌, drop, length, IfNone, IfOk, IfSome, OnOk};
+ghost use Rattle.std.specs.Prelude.{◌≡◌, ◌+◌, ◌<◌, length, IfNone, IfOk, IfSome, OnOk};
 ghost use Rattle.fk_print.specs.declared.op.Op.TheVariants as op;
 ghost use Rattle.fk_print.specs.declared.op.Word.TheVariants as word;
 ghost use Rattle.fk_queue.specs.Answers.{ack_of, after_ack};
@@ -16,10 +16,11 @@ ghost use Rattle.fk_wire.specs.TellText.{IsTell, tell_text};
 ghost use Rattle.fk_wire.specs.declared.message.Tell.TheVariants as tell;
 ghost use Rattle.fk_wire.specs.declared.version.Version.TheVariants as version;
 ghost use Rattle.fk_watch.specs.Kept.{watches_of};
-ghost use Rattle.fk_watch.specs.Notes.{firing_as, firings_as};
-ghost use Rattle.fk_watch.specs.Telling.{after_step, going_to, is_ended, next_with, post_after_step, started, step_op, told_at, watches_after_step};
-ghost use Rattle.fk_watch.specs.TellingFit.{CanTell, IsFit, IsReadable};
-ghost use Rattle.fk_watch.specs.TellingStanding.{stage_of, teller_of};
+ghost use Rattle.fk_watch.specs.Notes.{firing_as};
+ghost use Rattle.fk_watch.specs.Telling.{going_to, is_ended, next_with, started, told_at};
+ghost use Rattle.fk_watch.specs.TellingFit.{CanTell, IsFit};
+ghost use Rattle.fk_watch.specs.TellingStanding.{stage_of, teller_of, telling};
+ghost use Rattle.fk_watch.specs.TellingSteps.{Steps, services_of};
 
 use crate::answer::Told;
 use crate::table::WatchTable;
@@ -38,8 +39,8 @@ pub enum TellerState {
     Ended,
 }
 
-/// A function that tells clients which of their watches a push fired: it makes one operation per step, on
-/// the services that it is lent.
+/// A function that tells clients which of their watches a push fired: it makes one operation per
+/// step, on the services that it is lent.
 #[derive(Drop)]
 pub struct Teller {
     alloc: Global,
@@ -78,16 +79,16 @@ impl Teller {
         }
     }
 
-    /// Makes the operation before which it stands, with one call of one of the services, and gives its
-    /// line. After `NoMemory` neither the watch function nor the services are to be used further.
+    /// Makes the operation before which it stands, with one call of one of the services, and gives
+    /// its line. After `NoMemory` neither the watch function nor the services are to be used
+    /// further.
     #[tactic(auto, unfolding(crate::specs::TellingStanding::teller_of))]
     pub fn step(&mut self, post: &mut Post, watches: &mut WatchTable) -> Result<Op, NoMemory>
         requires { IsFit (post_of post.old) (teller_of self.old) }
-        ensures op { IfOk result (λ o. o ≡ step_op (post_of post.old) (watches_of watches.old) (teller_of self.old)) }
-        ensures teller { OnOk result (teller_of self.new ≡ after_step (post_of post.old) (watches_of watches.old) (teller_of self.old)) }
-        ensures post { OnOk result (post_of post.new ≡ post_after_step (post_of post.old) (teller_of self.old)) }
-        ensures watches { OnOk result (watches_of watches.new ≡ watches_after_step (watches_of watches.old) (teller_of self.old)) }
-        ensures readable { OnOk result (IsReadable (teller_of self.old).stage) }
+        ensures { IfOk result (λ o. Steps
+            (services_of post.old watches.old)
+            (services_of post.new watches.new)
+            (teller_of self.old) (teller_of self.new) o) }
     {
         match self.state {
             TellerState::Tell => match self.next()? {
@@ -117,9 +118,12 @@ impl Teller {
     // the next watch of its note, if there is one that isn't told
     #[tactic(auto, using(crate::proofs::TellingSteps::to_next, crate::proofs::TellingSteps::to_none))]
     fn next(&self) -> Result<Option<Fired>, NoMemory>
-        ensures some { IfOk result (λ o. IfSome o (λ f. stage_of self.now.note self.now.count TellerState.Tell ≡ stage.Tell (firing_as self.now.note.tx f) (firings_as self.now.note.tx (drop (self.now.count + 1) self.now.note.fired)))) }
-        ensures below { IfOk result (λ o. IfSome o (λ f. self.now.count < length self.now.note.fired)) }
-        ensures none { IfOk result (λ o. IfNone o (stage_of self.now.note self.now.count TellerState.Tell ≡ stage.Told)) }
+        ensures some { let next = stage_of self.now.note self.now.count TellerState.Tell in
+            IfOk result (λ o. IfSome o (λ f. next ≡ telling self.now.note self.now.count f)) }
+        ensures below { IfOk result (λ o. IfSome o
+            (λ f. self.now.count < length self.now.note.fired)) }
+        ensures none { IfOk result (λ o. IfNone o
+            (stage_of self.now.note self.now.count TellerState.Tell ≡ stage.Told)) }
     {
         let list = self.note.fired.as_slice();
         if self.count < list.len() {
@@ -133,7 +137,8 @@ impl Teller {
     #[tactic(auto, unfolding(crate::specs::TellingStanding::teller_of))]
     fn advance(&mut self)
         requires { self.old.count < length self.old.note.fired }
-        ensures { teller_of self.new ≡ going_to (stage_of self.old.note (self.old.count + 1) self.old.state) (teller_of self.old) }
+        ensures { let next = stage_of self.old.note (self.old.count + 1) self.old.state in
+            teller_of self.new ≡ going_to next (teller_of self.old) }
     {
         // its note has at most as many as a number counts
         let _length = self.note.fired.as_slice().len();
@@ -147,10 +152,13 @@ impl Teller {
         requires client { CanTell (post_of post.old) (firing_as self.old.note.tx fired) }
         requires below { self.old.count < length self.old.note.fired }
         requires state { self.old.state ≡ TellerState.Tell }
-        requires next { (teller_of self.old).stage ≡ stage.Tell (firing_as self.old.note.tx fired) (firings_as self.old.note.tx (drop (self.old.count + 1) self.old.note.fired)) }
-        ensures op { IfOk result (λ o. o ≡ or_fault (post_of post.old).armed self.old.inv word.Tell (op.Tell self.old.inv fired.session fired.id)) }
-        ensures teller { OnOk result (teller_of self.new ≡ next_with (or_fault (post_of post.old).armed self.old.inv word.Tell (op.Tell self.old.inv fired.session fired.id)) (teller_of self.old)) }
-        ensures post { OnOk result (post_of post.new ≡ posted (lane.Inbox fired.session) (tell_text version.Two (tell.Watch self.old.note.tx fired)) (post_of post.old)) }
+        requires next { (teller_of self.old).stage ≡ telling self.old.note self.old.count fired }
+        ensures op { IfOk result (λ o. o ≡ or_fault (post_of post.old).armed self.old.inv word.Tell
+            (op.Tell self.old.inv fired.session fired.id)) }
+        ensures teller { IfOk result (λ o. teller_of self.new ≡ next_with o (teller_of self.old)) }
+        ensures post { let text = tell_text version.Two (tell.Watch self.old.note.tx fired) in
+            OnOk result (post_of post.new
+            ≡ posted (lane.Inbox fired.session) text (post_of post.old)) }
         ensures readable { OnOk result (IsTell (tell.Watch self.old.note.tx fired)) }
     {
         let session = fired.session;
@@ -177,9 +185,11 @@ impl Teller {
     // the watches of its note are told
     #[tactic(auto, unfolding(crate::specs::TellingStanding::teller_of))]
     fn mark(&mut self, watches: &mut WatchTable) -> Op
-        ensures op { result ≡ or_fault (watches_of watches.old).armed self.old.inv word.Told (op.Told self.old.inv self.old.note.tx) }
-        ensures teller { teller_of self.new ≡ next_with (or_fault (watches_of watches.old).armed self.old.inv word.Told (op.Told self.old.inv self.old.note.tx)) (teller_of self.old) }
-        ensures watches { watches_of watches.new ≡ told_at self.old.note.tx (watches_of watches.old) }
+        ensures op { result ≡ or_fault (watches_of watches.old).armed self.old.inv word.Told
+            (op.Told self.old.inv self.old.note.tx) }
+        ensures teller { teller_of self.new ≡ next_with result (teller_of self.old) }
+        ensures watches { watches_of watches.new
+            ≡ told_at self.old.note.tx (watches_of watches.old) }
     {
         match watches.told(self.note.tx) {
             Told::Done => {
@@ -196,9 +206,12 @@ impl Teller {
     // it removes its note, where that is its lane's head, and ends
     #[tactic(auto, unfolding(crate::specs::TellingStanding::teller_of))]
     fn ack(&mut self, post: &mut Post) -> Op
-        ensures op { result ≡ or_fault (post_of post.old).armed self.old.inv word.Ack (ack_op self.old.inv self.old.number (head_number ((post_of post.old).lanes lane.Watch))) }
-        ensures teller { teller_of self.new ≡ going_to stage.Ended (teller_of self.old) }
-        ensures post { post_of post.new ≡ after_ack (post_of post.old) lane.Watch (ack_of (post_of post.old) lane.Watch self.old.number) }
+        ensures op { let q = post_of post.old in
+            result ≡ or_fault q.armed self.old.inv word.Ack
+            (ack_op self.old.inv self.old.number (head_number (q.lanes lane.Watch))) }
+        ensures teller { teller_of self.new ≡ next_with result (teller_of self.old) }
+        ensures post { let q = post_of post.old in
+            post_of post.new ≡ after_ack q lane.Watch (ack_of q lane.Watch self.old.number) }
     {
         self.state = TellerState::Ended;
         let function = self.inv;

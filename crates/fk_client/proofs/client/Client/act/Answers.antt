@@ -28,13 +28,13 @@ pub returns-in-Some-head-clause-lines : goal.returns-in-Some-head-clause-lines
 returns-in-Some-head-clause-lines g c = steps.on_told ((post_of c.args.post.now).lanes (lane.Inbox c.args.self.now.session)).waiting c.in-Some-head.number
     (λ o. IfOk c.take.result (λ r. r.1 ≡ lines_in (sight_by (post_of c.args.post.now) (watches_of c.args.watches.now) (store_of c.args.user.now) o (client_of c.args.self.now)) r.0 (client_of c.args.self.now)))
     (sym c.head.ensures ∙ c.in-Some-head.is)
-    (λ m i. c.take.ensures.lines (post_of c.args.post.now) (watches_of c.args.watches.now) (store_of c.args.user.now) m i)
+    (λ m i. c.take.ensures.lines m i (post_of c.args.post.now) (watches_of c.args.watches.now) (store_of c.args.user.now))
 
 pub returns-in-Some-head-clause-client : goal.returns-in-Some-head-clause-client
 returns-in-Some-head-clause-client g c = steps.on_told ((post_of c.args.post.now).lanes (lane.Inbox c.args.self.now.session)).waiting c.in-Some-head.number
     (λ o. IfOk c.take.result (λ r. client_of c.take.new.self ≡ made_by (post_of c.args.post.now) (watches_of c.args.watches.now) (store_of c.args.user.now) o r.0 (client_of c.args.self.now)))
     (sym c.head.ensures ∙ c.in-Some-head.is)
-    (λ m i. c.take.ensures.client (post_of c.args.post.now) (watches_of c.args.watches.now) (store_of c.args.user.now) m i)
+    (λ m i. c.take.ensures.client m i (post_of c.args.post.now) (watches_of c.args.watches.now) (store_of c.args.user.now))
 
 pub returns-in-Some-head-clause-table : goal.returns-in-Some-head-clause-table
 returns-in-Some-head-clause-table g c = c.take.ensures.table (g.T.Table.meaning c.args.table.now)
