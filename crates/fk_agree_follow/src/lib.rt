@@ -1,0 +1,7 @@
+//! Followers do what the rules say: where the services stand as a history says, a follower makes the operation that
+//! the rules name. Each law is the clause of a function without a body.
+#![tactic(auto)]
+
+mod followers;
+
+pub use followers::follower_makes_its_operation;
