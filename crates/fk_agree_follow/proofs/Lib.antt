@@ -1,2 +1,5 @@
+mod Making
 mod Operating
+mod Posting
 mod Reading
+mod Writing

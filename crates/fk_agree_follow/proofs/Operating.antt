@@ -1,6 +1,6 @@
 -- A follower makes the operation that the rules name.
 use Rattle.std.specs.Prelude.{◌+◌, ◌==◌, if◌then◌else◌, length}
-use Rattle.std.proofs.Common.{◌≡◌, ◌≢◌, ℕ, ◌≤◌, Bool, true, false, List, refl, sym, ◌∙◌, ap, subst, arith, Some}
+use Rattle.std.proofs.Common.{◌≡◌, ◌≢◌, ℕ, true, false, List, refl, sym, ◌∙◌, ap, subst, arith, Some}
 use Rattle.std.proofs.lemmas.Bool.{false≢true}
 use Rattle.fk_base.specs.Path.{PathNames}
 use Rattle.fk_base.specs.declared.code.Code.TheVariants as code
@@ -10,7 +10,6 @@ use Rattle.fk_print.specs.declared.op.Op.TheVariants as op
 use Rattle.fk_queue.specs.Letters.{head_number}
 use Rattle.fk_queue.specs.Meaning as post
 use Rattle.fk_queue.specs.declared.lane.Lane.TheVariants as lane
-use Rattle.fk_store.specs.Answers.{AreOwned}
 use Rattle.fk_store.specs.Conds.{session_of}
 use Rattle.fk_store.specs.Meaning as table
 use Rattle.fk_follow.specs.Fit.{IsRead, IsReadAt}
@@ -18,17 +17,15 @@ use Rattle.fk_follow.specs.Meaning.{Meaning, is_end, is_ended}
 use Rattle.fk_follow.specs.Operation as follow
 use Rattle.fk_follow.specs.Operation.{calm_op, is_armed, lock_passed, locked, step_op}
 use Rattle.fk_stand.specs.Posts.{post_after}
-use Rattle.fk_stand.specs.Standing.{Standing}
 use Rattle.fk_stand.specs.Tables.{table_after}
 use Rattle.fk_spec.specs.Plan.{Plan, is_client}
 use Rattle.fk_spec.specs.Start.{Follows, clock_of, task_of}
 use Rattle.fk_spec.specs.Failing.{or_fault}
 use Rattle.fk_spec.specs.Locks.{first_passed, granted}
 use Rattle.fk_spec.specs.Settling.{settled_of}
-use Rattle.fk_spec.specs.Stored.{committed_of, owned_after}
 use Rattle.fk_spec.specs.Follower as stage
 use Rattle.fk_spec.specs.Follower.{Follower, Stage, ack_op, commit_locked, follower_op, refuse_locked}
-use Rattle.fk_spec.specs.Function.{Following, fault_op, follower_word, function_op, place_of}
+use Rattle.fk_spec.specs.Function.{fault_op, follower_word, function_op}
 use Rattle.fk_spec.specs.Next.{IsHistory}
 use Rattle.fk_law.proofs.Clients.{follows_a_client, follows_from_1}
 use Rattle.fk_law.proofs.Starting.{follower_task}

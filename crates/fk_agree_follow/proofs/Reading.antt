@@ -1,7 +1,6 @@
 -- What a follower reads of the services is what the rules read of the history.
-use Rattle.std.specs.Prelude.{◌+◌, ◌-◌, ◌==◌, ◌||◌, if◌then◌else◌, nat_lt, not, map, option_map, is_some}
+use Rattle.std.specs.Prelude.{◌+◌, ◌-◌, ◌==◌, ◌||◌, if◌then◌else◌, nat_lt, not, option_map}
 use Rattle.std.proofs.Common.{◌≡◌, ◌≢◌, ℕ, zero, suc, ◌≤◌, Bool, true, false, cond, List, [], ◌∷◌, refl, sym, ◌∙◌, ap, arith, Option, Some, None}
-use Rattle.std.proofs.lemmas.Bool.{false≢true}
 use Rattle.std.proofs.lemmas.Bool.Decides.{nat_tests}
 use Rattle.fk_base.specs.Path.{PathNames}
 use Rattle.fk_tree.specs.Sorted.{in_path_order}
@@ -28,7 +27,6 @@ use Rattle.fk_law.proofs.Filling.{owned_has, owned_rise}
 use Rattle.fk_stand.specs.Tables.{kept_as, lock_from, session_record, table_after}
 use Rattle.fk_spec.specs.Plan.{Plan}
 use Rattle.fk_spec.specs.Start.{clock_of}
-use Rattle.fk_spec.specs.Locks as rules
 use Rattle.fk_spec.specs.Locks.{Grant, first_passed, granted, has_released, is_held_by, last_grant, may_grant, passed_on}
 use Rattle.fk_spec.specs.Settling.{Committed, Outcome, Passed, Refused, outcome_of, settled_of}
 use Rattle.fk_spec.specs.Stored.{committed_of, owned_after, stored_view}
@@ -37,7 +35,7 @@ use Rattle.fk_spec.specs.Follower.{Follower, Granted, busy_op, paths_of, unsettl
 use Rattle.fk_spec.specs.Function.{Following, place_of}
 use Rattle.fk_spec.specs.Next.{IsHistory}
 use Rattle.fk_law.proofs.Recording.{records_are_of_its_grants}
-use Rattle.fk_agree.proofs.Granting.{record_at, shows_node}
+use Rattle.fk_agree.proofs.Granting.{shows_node}
 use Rattle.fk_agree.proofs.Locking.{holds_the_same, lock_is}
 
 -- The session's record. ---------------------------------------------------------------------------------
