@@ -1,0 +1,7 @@
+mod Going
+mod Making
+mod Operating
+mod Posting
+mod Reading
+mod Staying
+mod Writing
