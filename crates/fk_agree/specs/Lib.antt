@@ -8,6 +8,7 @@ pub mod Heads
 pub mod Letters
 pub mod Pushes
 pub mod Records
+pub mod Sending
 pub mod Services
 pub mod Stored
 pub mod Watched

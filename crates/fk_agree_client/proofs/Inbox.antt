@@ -99,7 +99,7 @@ no_firing : (p : Plan) (c id : ℕ) (h : List Entry) (o : Op) (m : Message) → 
 no_firing p c id h (op.SweepOk n t fired) m q = absurd (none_some m q)
 no_firing p c id h o m q = refl
 
-told_the_same : (p : Plan) (c : ℕ) (e : Entry) (h : List Entry) (m n : Message) → posted_in p c h e.op ≡ Some m → tell_of p (e ∷ h) n ≡ tell_of p h n
+pub told_the_same : (p : Plan) (c : ℕ) (e : Entry) (h : List Entry) (m n : Message) → posted_in p c h e.op ≡ Some m → tell_of p (e ∷ h) n ≡ tell_of p h n
 told_the_same p c e h m (Done k tx) q = ap (λ z. option_map (done_tell k tx) (or_else z (push_message_of p tx h))) (no_push p c tx h e.op m q)
 told_the_same p c e h m (Evicted k tx) q = refl
 told_the_same p c e h m (Kept k o) q = refl
@@ -107,7 +107,7 @@ told_the_same p c e h m (Watch id) q = ap (λ z. option_map watch_tell (or_else 
 told_the_same p c e h m (Ping n) q = refl
 
 -- a line that posts takes nothing from the inbox
-not_taken : (p : Plan) (c : ℕ) (h : List Entry) (o : Op) (m : Message) → posted_in p c h o ≡ Some m → takes c o ≡ false
+pub not_taken : (p : Plan) (c : ℕ) (h : List Entry) (o : Op) (m : Message) → posted_in p c h o ≡ Some m → takes c o ≡ false
 not_taken p c h (op.Reply n s k) m q = refl
 not_taken p c h (op.Tell n s w) m q = refl
 not_taken p c h (op.Ping n s) m q = refl
@@ -156,7 +156,7 @@ posted p h s ms m t i q = more_say p h s.waiting ms (record { number = s.given +
 abbrev letter_for : Plan → List Entry → Option Message → Option (List ℕ)
 letter_for p h o = option_map (tell_text version.Two) (option_and_then (tell_of p h) o)
 
-none_taken : (p : Plan) (c : ℕ) (h : List Entry) (o : Op) → takes c o ≡ true → posted_in p c h o ≡ None
+pub none_taken : (p : Plan) (c : ℕ) (h : List Entry) (o : Op) → takes c o ≡ true → posted_in p c h o ≡ None
 none_taken p c h (op.Reply n s k) q = absurd (false≢true q)
 none_taken p c h (op.Tell n s w) q = absurd (false≢true q)
 none_taken p c h (op.Ping n s) q = absurd (false≢true q)

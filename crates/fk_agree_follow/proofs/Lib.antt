@@ -1,7 +1,7 @@
-mod Going
-mod Making
-mod Operating
-mod Posting
-mod Reading
-mod Staying
-mod Writing
+pub mod Going
+pub mod Making
+pub mod Operating
+pub mod Posting
+pub mod Reading
+pub mod Staying
+pub mod Writing

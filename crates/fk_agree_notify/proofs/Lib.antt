@@ -1,5 +1,5 @@
-mod BeatServices
-mod Beating
-mod Fired
-mod TellerServices
-mod Telling
+pub mod BeatServices
+pub mod Beating
+pub mod Fired
+pub mod TellerServices
+pub mod Telling
