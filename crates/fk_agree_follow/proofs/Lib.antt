@@ -3,5 +3,6 @@ mod Making
 mod Operating
 mod Posting
 mod Reading
+mod Starting
 mod Staying
 mod Writing

@@ -1,4 +1,9 @@
-ghost use Rattle.fk_agree_follow.specs.Followers.{FollowerEndsByFault, FollowerFails, FollowerFaultIsWritten, FollowerGoesOn, FollowerIsWritten, FollowerMakesItsOperation, OthersLeaveFollowers};
+ghost use Rattle.fk_agree_follow.specs.Followers.{FollowerEndsByFault, FollowerFails, FollowerFaultIsWritten, FollowerGoesOn, FollowerIsWritten, FollowerMakesItsOperation, FollowerStarts, OthersLeaveFollowers};
+
+/// A law: a follower that starts on the message that its lane's head is read as is the function of the start line.
+pub fn follower_starts()
+    ensures { FollowerStarts }
+{}
 
 /// A law: a follower makes the operation that the rules name, and the fault that they name where the services fail.
 pub fn follower_makes_its_operation()
