@@ -1,3 +1,5 @@
+mod Bounding
+mod Fitting
 mod Going
 mod Making
 mod Operating

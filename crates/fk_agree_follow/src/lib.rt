@@ -6,5 +6,6 @@
 mod followers;
 
 pub use followers::{
-    follower_goes_on, follower_is_written, follower_makes_its_operation, follower_starts,
+    follower_goes_on, follower_is_fit, follower_is_written, follower_makes_its_operation,
+    follower_starts,
 };
