@@ -13,6 +13,7 @@ pub mod Posting
 pub mod Putting
 pub mod Serving
 pub mod Settling
+pub mod Sweeping
 pub mod Telling
 pub mod Watching
 pub mod Writing

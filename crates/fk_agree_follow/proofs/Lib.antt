@@ -1,7 +1,10 @@
+pub mod Bounding
+pub mod Fitting
 pub mod Going
 pub mod Making
 pub mod Operating
 pub mod Posting
 pub mod Reading
+pub mod Starting
 pub mod Staying
 pub mod Writing

@@ -5,4 +5,7 @@
 
 mod followers;
 
-pub use followers::{follower_goes_on, follower_is_written, follower_makes_its_operation};
+pub use followers::{
+    follower_goes_on, follower_is_fit, follower_is_written, follower_makes_its_operation,
+    follower_starts,
+};
