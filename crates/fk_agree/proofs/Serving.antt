@@ -60,7 +60,7 @@ LeavesPost (op.TakeWatch session watch) = ⊥
 LeavesPost (op.TakePing session ping) = ⊥
 LeavesPost _ = Unit {0}
 
-lane_left : (p : Plan) (l : Lane) (h : List Entry) (o : Op) → LeavesPost o → LeavesLane p l h o
+pub lane_left : (p : Plan) (l : Lane) (h : List Entry) (o : Op) → LeavesPost o → LeavesLane p l h o
 lane_left p lane.Leader h o k = record { none = leader_none o k; kept = leader_kept o k }
   where
     leader_none : (o : Op) → LeavesPost o → letter_in p lane.Leader h o ≡ None

@@ -1,3 +1,4 @@
 pub mod Flights
+pub mod Plain
 pub mod Readable
 pub mod Turning
