@@ -2,3 +2,4 @@ pub mod Flights
 pub mod Plain
 pub mod Readable
 pub mod Turning
+pub mod Turns

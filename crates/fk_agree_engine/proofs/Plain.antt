@@ -206,7 +206,7 @@ crash_goes_on p h w n r k = crash_rest p h w n (w.functions.running n) refl (lon
 -- Deliveries. --------------------------------------------------------------------------------------------
 
 -- an event that finds no message
-idle_goes_on : (p : Plan) (h : List Entry) (w : Meaning) (v : Event) → IsHistory p (record { event = v; op = op.Idle; lines = [] } ∷ h) → IsWorld p h w → IsWorld p (record { event = v; op = op.Idle; lines = [] } ∷ h) w
+pub idle_goes_on : (p : Plan) (h : List Entry) (w : Meaning) (v : Event) → IsHistory p (record { event = v; op = op.Idle; lines = [] } ∷ h) → IsWorld p h w → IsWorld p (record { event = v; op = op.Idle; lines = [] } ∷ h) w
 idle_goes_on p h w v l x = goes_on p e h w w.functions l refl tt (leaves_all p e h op.Idle refl tt tt tt tt) refl (functions_stay p e h w.functions l refl refl x.functions) x
   where
     e : Entry
