@@ -1,4 +1,5 @@
 pub mod Flights
+pub mod Moves
 pub mod Plain
 pub mod Readable
 pub mod Turning
