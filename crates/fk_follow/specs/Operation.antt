@@ -1,5 +1,5 @@
 -- The operation that a follower makes, by what it reads of the services.
-use Rattle.std.specs.Prelude.{ℕ, ◌+◌, ◌==◌, Bool, false, if◌then◌else◌, List, length, map, option_map, Option}
+use Rattle.std.specs.Prelude.{ℕ, ◌+◌, ◌==◌, Bool, false, if◌then◌else◌, List, length}
 use Rattle.fk_base.specs.Path.{PathNames}
 use Rattle.fk_base.specs.declared.code.Code.TheVariants as code
 use Rattle.fk_tree.specs.Check.{Refusal}
@@ -17,12 +17,11 @@ use Rattle.fk_store.specs.declared.lock.Lock.{Lock}
 use Rattle.fk_store.specs.declared.outcome.Outcome.{Outcome}
 use Rattle.fk_store.specs.declared.outcome.Outcome.TheVariants as kept
 use Rattle.fk_store.specs.declared.session_record.SessionRecord.{SessionRecord}
-use Rattle.fk_spec.specs.Follower.{Follower, Granted, Stage, ack_op, commit_locked, refuse_locked, unsettled_op}
+use Rattle.fk_spec.specs.Follower.{Follower, Stage, ack_op, commit_locked, paths_of, refuse_locked, unsettled_op}
 use Rattle.fk_spec.specs.Follower as stage
 use Rattle.fk_spec.specs.Failing.{or_fault}
 use Rattle.fk_spec.specs.Function.{follower_word}
-use Rattle.fk_spec.specs.Locks as locks
-use Rattle.fk_settle.specs.Held.{Passed, first_passed}
+use Rattle.fk_settle.specs.Held.{first_passed}
 use Rattle.fk_follow.specs.Meaning.{Meaning}
 
 -- ---- what is read of the table
@@ -39,30 +38,18 @@ session_op n k r =
 abbrev pub lock_op : ℕ → ℕ → ℕ → PathNames → Lock → Op
 lock_op now time n path l = if is_free now time l then op.LockOk n path else op.LockBusy n path l.inv l.moment
 
--- the paths of the granted locks, in the order of the grants
-abbrev pub paths_of : List Granted → List PathNames
-paths_of gs = map (λ g. g.path) gs
-
 -- the paths whose locks a commit and a refusal need, and release
 abbrev pub locked : Follower → List PathNames
 locked f = in_path_order (paths_of f.granted)
 
--- a path whose lock passed on, as a history says it
-abbrev pub passed_as : Passed → locks.Passed
-passed_as x = record { path = x.path; holder = x.holder; moment = x.moment }
-
--- the first of the paths whose lock isn't held by invocation n
-abbrev pub lock_passed : ℕ → table.Meaning → List PathNames → Option locks.Passed
-lock_passed n t ps = option_map passed_as (first_passed n t ps)
-
 abbrev pub commit_op : table.Meaning → ℕ → ℕ → Follower → Op
 commit_op t n tx f =
-    if (session_of t f.session).settled + 1 == f.k then commit_locked n tx (lock_passed n t (locked f)) else op.CommitSettled n tx (session_of t f.session).settled
+    if (session_of t f.session).settled + 1 == f.k then commit_locked n tx (first_passed n t (locked f)) else op.CommitSettled n tx (session_of t f.session).settled
 
 -- a refusal is settled under the same conditions
 abbrev pub refuse_op : table.Meaning → ℕ → Refusal → ℕ → Follower → Op
 refuse_op t n r at f =
-    if (session_of t f.session).settled + 1 == f.k then refuse_locked n r at (lock_passed n t (locked f)) else op.RefuseSettled n r.code r.place at (session_of t f.session).settled
+    if (session_of t f.session).settled + 1 == f.k then refuse_locked n r at (first_passed n t (locked f)) else op.RefuseSettled n r.code r.place at (session_of t f.session).settled
 
 -- a request of a closed session is refused under the first of them alone, and so is a loss settled
 abbrev pub expire_op : table.Meaning → ℕ → ℕ → Follower → Op

@@ -3,9 +3,6 @@ use Rattle.std.specs.Prelude.{ℕ, if◌then◌else◌, List, [], Option, Some, 
 use Rattle.fk_base.specs.Path.{PathNames}
 use Rattle.fk_base.specs.declared.code.Code.TheVariants as code
 use Rattle.fk_tree.specs.Check.{Refusal}
-use Rattle.fk_tree.specs.Fill.{fill_name, fill_version, fill_made}
-use Rattle.fk_tree.specs.declared.request.Request.{Request}
-use Rattle.fk_tree.specs.declared.request.Request.TheVariants as request
 use Rattle.fk_queue.specs.Answers.{ack_of, after_ack}
 use Rattle.fk_queue.specs.Meaning as post
 use Rattle.fk_queue.specs.Meaning.{posted}
@@ -21,48 +18,19 @@ use Rattle.fk_wire.specs.PushedText.{pushed_text}
 use Rattle.fk_wire.specs.TellText.{tell_text}
 use Rattle.fk_wire.specs.declared.message.Pushed.{Pushed}
 use Rattle.fk_wire.specs.declared.message.Tell.{Tell}
-use Rattle.fk_wire.specs.declared.message.Tell.TheVariants as tell
 use Rattle.fk_wire.specs.declared.version.Version.TheVariants as version
-use Rattle.fk_spec.specs.Follower.{Follower, Stage, view_of}
+use Rattle.fk_spec.specs.Follower.{Stage}
 use Rattle.fk_spec.specs.Follower as stage
-use Rattle.fk_spec.specs.Stored.{owned_among}
 use Rattle.fk_follow.specs.Meaning.{Meaning}
-use Rattle.fk_follow.specs.Operation.{locked, paths_of}
-use Rattle.fk_settle.specs.Transaction.{commit_conds, commit_writes, refuse_writes, settle_conds, transacted}
+use Rattle.fk_follow.specs.Operation.{locked}
+use Rattle.fk_settle.specs.Transaction.{committed, refuse_writes, settle_conds, transacted}
+use Rattle.fk_stand.specs.Messages.{kept_tell, push_with}
 
 -- ---- messages
-
--- of the nodes that its session owned, those that it owns in the granted records
-abbrev pub gone_of : Follower → Request → List PathNames
-gone_of f (request.Close evict) = owned_among f.session (view_of f.granted) f.owned
-gone_of f _ = []
-
--- The push of follower n: its request at this moment, as it is filled on the records that its locks gave, and the
--- paths of those locks.
-abbrev pub push_with : ℕ → ℕ → Follower → Request → Pushed
-push_with n moment f r = record {
-  session = f.session;
-  k = f.k;
-  inv = n;
-  moment = moment;
-  request = r;
-  name = fill_name (view_of f.granted) r;
-  version = fill_version (view_of f.granted) r;
-  gone = gone_of f r;
-  made = fill_made (view_of f.granted) f.session r;
-  paths = paths_of f.granted;
-}
 
 -- what it pushes at this moment
 abbrev pub push_at : ℕ → Meaning → Pushed
 push_at moment m = push_with m.inv moment m.follower m.message.request
-
--- a reply tells the outcome that was kept; a commit is told by a leader
-abbrev pub kept_tell : ℕ → Outcome → Option Tell
-kept_tell k kept.Nothing = None
-kept_tell k (kept.Applied tx) = None
-kept_tell k (kept.Refused code at place) = Some (tell.Refused k code at place)
-kept_tell k (kept.Lost path own found moment) = Some (tell.Lost k path own found moment)
 
 -- ---- the post
 
@@ -96,10 +64,6 @@ taken path n now time t =
 
 abbrev pub refused : Refusal → ℕ → Outcome
 refused r at = kept.Refused r.code at r.place
-
--- a commit: its push at its moment, under its number
-abbrev pub committed : ℕ → Pushed → table.Meaning → table.Meaning
-committed tx x t = transacted (commit_conds x) (commit_writes tx x) t
 
 -- an outcome is settled where these locks are held, which are released
 abbrev pub settled_as : Outcome → List PathNames → Meaning → table.Meaning → table.Meaning
