@@ -44,4 +44,7 @@ looked_free mark (Some watch) = looked.Held mark watch
 
 -- what a look for a number shows
 abbrev pub looked_at : user.Meaning → List ℕ → ℕ → Looked
-looked_at u held number = if u.armed then looked.Failed else if nat_lt u.mark number then looked.Behind u.mark else looked_free u.mark (first_held u.epoch held)
+looked_at u held number =
+    if u.armed then looked.Failed
+    else if nat_lt u.mark number then looked.Behind u.mark
+    else looked_free u.mark (first_held u.epoch held)

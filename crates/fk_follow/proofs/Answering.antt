@@ -16,10 +16,10 @@ use Rattle.fk_spec.specs.Follower.{Follower, ack_op, refuse_locked}
 use Rattle.fk_spec.specs.Locks.{Passed}
 use Rattle.fk_settle.specs.Held.{first_passed}
 use Rattle.fk_spec.specs.Failing.{or_fault}
-use Rattle.fk_follow.specs.Operation.{commit_op, locked, lost_op}
+use Rattle.fk_follow.specs.Operation.{commit_op, locked, lost_op, refuse_on}
 use Rattle.fk_settle.specs.Verdicts.{commit_by, verdict_of, verdict_on}
 use Rattle.fk_settle.proofs.Commits.{commit_told}
-use Rattle.fk_follow.specs.Said.{ack_by, lost_by, refuse_by, refuse_on}
+use Rattle.fk_follow.specs.Said.{ack_by, lost_by, refuse_by}
 use Rattle.fk_settle.specs.declared.settling.Verdict.TheVariants as verdict
 
 pub commit_said : (t : Meaning) (n tx : ℕ) (f : Follower) → commit_by n tx (verdict_of t f.session f.k n (locked f)) ≡ or_fault t.armed n word.Commit (commit_op t n tx f)

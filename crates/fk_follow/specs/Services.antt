@@ -6,6 +6,7 @@ use Rattle.fk_tree.specs.Check.{Refusal}
 use Rattle.fk_queue.specs.Answers.{ack_of, after_ack}
 use Rattle.fk_queue.specs.Meaning as post
 use Rattle.fk_queue.specs.Meaning.{posted}
+use Rattle.fk_queue.specs.declared.lane.Lane.{Lane}
 use Rattle.fk_queue.specs.declared.lane.Lane.TheVariants as lane
 use Rattle.fk_store.specs.Locks.{is_free}
 use Rattle.fk_store.specs.Meaning as table
@@ -38,6 +39,10 @@ abbrev pub told : ℕ → Option Tell → post.Meaning → post.Meaning
 told session None q = q
 told session (Some m) q = posted (lane.Inbox session) (tell_text version.Two m) q
 
+-- the post after the acknowledgement of a message of this number
+abbrev pub acknowledged : Lane → ℕ → post.Meaning → post.Meaning
+acknowledged l k q = after_ack q l (ack_of q l k)
+
 abbrev pub stage_post : post.Meaning → ℕ → Meaning → Stage → post.Meaning
 stage_post q now m stage.Session = q
 stage_post q now m stage.Owned = q
@@ -48,7 +53,7 @@ stage_post q now m (stage.Expire at) = q
 stage_post q now m (stage.Commit tx) = q
 stage_post q now m stage.Lost = q
 stage_post q now m stage.Reply = told m.follower.session (kept_tell m.follower.k m.outcome) q
-stage_post q now m stage.Ack = after_ack q (lane.Session m.follower.session) (ack_of q (lane.Session m.follower.session) m.follower.k)
+stage_post q now m stage.Ack = acknowledged (lane.Session m.follower.session) m.follower.k q
 stage_post q now m stage.Ended = q
 
 -- The post after a follower's operation at this moment: a push, a reply and an acknowledgement use it.
@@ -60,7 +65,9 @@ post_after_step q now m = stage_post q now m m.follower.stage
 -- the table after a lock was asked for
 abbrev pub taken : PathNames → ℕ → ℕ → ℕ → table.Meaning → table.Meaning
 taken path n now time t =
-    if t.armed then table.called t else if is_free now time (lock_of t path) then written (write.Grant path n now) t else t
+    if t.armed then table.called t
+    else if is_free now time (lock_of t path) then written (write.Grant path n now) t
+    else t
 
 abbrev pub refused : Refusal → ℕ → Outcome
 refused r at = kept.Refused r.code at r.place
@@ -68,7 +75,8 @@ refused r at = kept.Refused r.code at r.place
 -- an outcome is settled where these locks are held, which are released
 abbrev pub settled_as : Outcome → List PathNames → Meaning → table.Meaning → table.Meaning
 settled_as o ps m t =
-    transacted (settle_conds m.follower.session m.follower.k m.inv ps) (refuse_writes m.follower.session m.follower.k o ps) t
+    transacted (settle_conds m.follower.session m.follower.k m.inv ps)
+    (refuse_writes m.follower.session m.follower.k o ps) t
 
 abbrev pub stage_table : table.Meaning → ℕ → ℕ → Meaning → Stage → table.Meaning
 stage_table t now time m stage.Session = table.called t

@@ -114,7 +114,10 @@ watches_after_step w m = stage_watches w m m.stage
 
 -- the store after a put that doesn't want memory
 abbrev pub put_at : PathNames → ℕ → ℕ → List Edit → user.Meaning → user.Meaning
-put_at path tx moment es u = if u.armed then user.called u else if nat_lt (u.records path).stamp tx then with_put u path tx moment es else u
+put_at path tx moment es u =
+    if u.armed then user.called u
+    else if nat_lt (u.records path).stamp tx then with_put u path tx moment es
+    else u
 
 -- the store after a publication that doesn't want memory
 abbrev pub published_at : ℕ → List ℕ → user.Meaning → user.Meaning
