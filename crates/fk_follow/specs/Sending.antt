@@ -5,7 +5,8 @@ use Rattle.fk_wire.specs.declared.message.Tell.{Tell}
 use Rattle.fk_spec.specs.Follower.{Stage}
 use Rattle.fk_spec.specs.Follower as stage
 use Rattle.fk_follow.specs.Meaning.{Meaning}
-use Rattle.fk_follow.specs.Services.{kept_tell, push_at}
+use Rattle.fk_stand.specs.Messages.{kept_tell}
+use Rattle.fk_follow.specs.Services.{push_at}
 
 -- nothing is told, or a message whose text is read back
 abbrev pub IsToldReadable : Option Tell → Type 0

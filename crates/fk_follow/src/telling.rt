@@ -15,7 +15,8 @@ ghost use Rattle.fk_follow.specs.Next.{GoesOn, GoesOnAfter};
 ghost use Rattle.fk_spec.specs.Failing.{or_fault};
 ghost use Rattle.fk_follow.specs.Said.{ack_by};
 ghost use Rattle.fk_follow.specs.Sending.{IsToldReadable};
-ghost use Rattle.fk_follow.specs.Services.{kept_tell, told};
+ghost use Rattle.fk_follow.specs.Services.{told};
+ghost use Rattle.fk_stand.specs.Messages.{kept_tell};
 ghost use Rattle.fk_follow.specs.Standing.{follower_of, outcome_of};
 
 use crate::follower::Follower;
