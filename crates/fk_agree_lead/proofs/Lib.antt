@@ -1,0 +1,6 @@
+mod Given
+mod Making
+mod Numbers
+mod Pending
+mod Pushed
+mod Starting
