@@ -1,5 +1,7 @@
 mod Given
+mod Going
 mod Making
+mod Needs
 mod Numbers
 mod Pending
 mod Pushed

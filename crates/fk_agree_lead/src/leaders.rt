@@ -1,4 +1,4 @@
-ghost use Rattle.fk_agree_lead.specs.Leaders.{LeaderFails, LeaderMakesItsOperation, LeaderStarts};
+ghost use Rattle.fk_agree_lead.specs.Leaders.{LeaderEndsAtItsFault, LeaderFails, LeaderGoesOn, LeaderIsFit, LeaderMakesItsOperation, LeaderStarts, OthersLeaveLeaders};
 
 /// A law: a leader that starts on the push that its lane's head is read as is the function of the start line.
 pub fn leader_starts()
@@ -9,4 +9,17 @@ pub fn leader_starts()
 pub fn leader_makes_its_operation()
     ensures op { LeaderMakesItsOperation }
     ensures fault { LeaderFails }
+{}
+
+/// A law: after its operation a leader stands where the rules say, or has ended where they say so, as it has after a
+/// fault; the lines of others leave it.
+pub fn leader_goes_on()
+    ensures own { LeaderGoesOn }
+    ensures fault { LeaderEndsAtItsFault }
+    ensures others { OthersLeaveLeaders }
+{}
+
+/// A law: what a leader's operation needs holds.
+pub fn leader_is_fit()
+    ensures { LeaderIsFit }
 {}

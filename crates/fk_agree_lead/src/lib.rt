@@ -5,4 +5,4 @@
 
 mod leaders;
 
-pub use leaders::{leader_makes_its_operation, leader_starts};
+pub use leaders::{leader_goes_on, leader_is_fit, leader_makes_its_operation, leader_starts};
