@@ -4,5 +4,9 @@ mod Making
 mod Needs
 mod Numbers
 mod Pending
+mod Posted
 mod Pushed
+mod Requested
 mod Starting
+mod Tabled
+mod Written

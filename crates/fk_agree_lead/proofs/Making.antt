@@ -105,16 +105,17 @@ passed_the_same p n h faults (q ∷ ps) = by_test (store.is_held_by n (lock_of (
 abbrev pub committing : ℕ → ℕ → ℕ → ℕ → Option Passed → Op
 committing n t settled k passed = if settled + 1 == k then commit_locked n t passed else op.CommitSettled n t settled
 
-pub commit_found : (p : Plan) (h : List Entry) (m : Meaning) (t : table.Meaning) → t ≡ table_after p h t.faults → (x : HasPush p h m) → lead.commit_op t m.inv m.tx m.message ≡ committing m.inv m.tx (settled_of x.session h) x.k (first_passed x.holder h (in_path_order (granted x.holder h)))
-commit_found p h m t s x = λ i. committing m.inv m.tx (settled i) ((x.tells.number) i) (passed i)
-  where
-    settled : (session_of t m.message.session).settled ≡ settled_of x.session h
-    settled = ap (λ z. (session_of t z).settled) x.tells.session ∙ ap (λ z. z.settled) (session_is p x.session h t s x.client)
+-- what it finds of its session and of its locks
+pub settled_found : (p : Plan) (h : List Entry) (m : Meaning) (t : table.Meaning) → t ≡ table_after p h t.faults → (x : HasPush p h m) → (session_of t m.message.session).settled ≡ settled_of x.session h
+settled_found p h m t s x = ap (λ z. (session_of t z).settled) x.tells.session ∙ ap (λ z. z.settled) (session_is p x.session h t s x.client)
 
-    passed : option_map passed_as (settle.first_passed m.message.inv t (in_path_order m.message.paths)) ≡ first_passed x.holder h (in_path_order (granted x.holder h))
-    passed =
-        ap (λ z. option_map passed_as (settle.first_passed m.message.inv z (in_path_order m.message.paths))) s
-        ∙ (passed_the_same p m.message.inv h t.faults (in_path_order m.message.paths) ∙ (λ i. first_passed ((x.tells.inv) i) h (in_path_order ((x.tells.paths) i))))
+pub passed_found : (p : Plan) (h : List Entry) (m : Meaning) (t : table.Meaning) → t ≡ table_after p h t.faults → (x : HasPush p h m) → option_map passed_as (settle.first_passed m.message.inv t (in_path_order m.message.paths)) ≡ first_passed x.holder h (in_path_order (granted x.holder h))
+passed_found p h m t s x =
+    ap (λ z. option_map passed_as (settle.first_passed m.message.inv z (in_path_order m.message.paths))) s
+    ∙ (passed_the_same p m.message.inv h t.faults (in_path_order m.message.paths) ∙ (λ i. first_passed ((x.tells.inv) i) h (in_path_order ((x.tells.paths) i))))
+
+pub commit_found : (p : Plan) (h : List Entry) (m : Meaning) (t : table.Meaning) → t ≡ table_after p h t.faults → (x : HasPush p h m) → lead.commit_op t m.inv m.tx m.message ≡ committing m.inv m.tx (settled_of x.session h) x.k (first_passed x.holder h (in_path_order (granted x.holder h)))
+commit_found p h m t s x = λ i. committing m.inv m.tx ((settled_found p h m t s x) i) ((x.tells.number) i) ((passed_found p h m t s x) i)
 
 -- A sweep. ----------------------------------------------------------------------------------------------
 

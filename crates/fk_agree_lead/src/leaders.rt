@@ -1,4 +1,4 @@
-ghost use Rattle.fk_agree_lead.specs.Leaders.{LeaderEndsAtItsFault, LeaderFails, LeaderGoesOn, LeaderIsFit, LeaderMakesItsOperation, LeaderStarts, OthersLeaveLeaders};
+ghost use Rattle.fk_agree_lead.specs.Leaders.{LeaderEndsAtItsFault, LeaderFails, LeaderFaultIsWritten, LeaderGoesOn, LeaderIsFit, LeaderIsWritten, LeaderMakesItsOperation, LeaderPrintsItsLine, LeaderStarts, OthersLeaveLeaders};
 
 /// A law: a leader that starts on the push that its lane's head is read as is the function of the start line.
 pub fn leader_starts()
@@ -22,4 +22,15 @@ pub fn leader_goes_on()
 /// A law: what a leader's operation needs holds.
 pub fn leader_is_fit()
     ensures { LeaderIsFit }
+{}
+
+/// A law: a leader's operation, or its fault, leaves the services as the longer history says.
+pub fn leader_is_written()
+    ensures op { LeaderIsWritten }
+    ensures fault { LeaderFaultIsWritten }
+{}
+
+/// A law: what a leader shows where it publishes is the line of its transaction.
+pub fn leader_prints_its_line()
+    ensures { LeaderPrintsItsLine }
 {}

@@ -1,0 +1,157 @@
+-- What the post holds after a leader's operation.
+use Rattle.std.specs.Prelude.{◌==◌, ◌+◌, nat_lt, if◌then◌else◌, length, map, option_and_then, option_map}
+use Rattle.std.proofs.Common.{◌≡◌, ℕ, Bool, true, false, cond, List, ◌∷◌, refl, sym, ◌∙◌, ap, subst, Option, Some, None}
+use Rattle.std.proofs.lemmas.Bool.{eq-eqb, false≢true}
+use Rattle.fk_tree.specs.Sorted.{in_path_order}
+use Rattle.fk_tree.specs.declared.request.Request.{Request}
+use Rattle.fk_tree.specs.declared.request.Request.TheVariants as request
+use Rattle.fk_print.specs.declared.entry.Entry.{Entry}
+use Rattle.fk_print.specs.declared.op.Op.TheVariants as op
+use Rattle.fk_queue.specs.Answers as answers
+use Rattle.fk_queue.specs.Answers.{after_ack}
+use Rattle.fk_queue.specs.Lanes.{same_lane}
+use Rattle.fk_queue.specs.Letters.{head_number}
+use Rattle.fk_queue.specs.Meaning.{popped, pushed}
+use Rattle.fk_queue.specs.declared.answer.Ack.TheVariants as ack
+use Rattle.fk_queue.specs.declared.lane.Lane.{Lane}
+use Rattle.fk_queue.specs.declared.lane.Lane.TheVariants as lane
+use Rattle.fk_settle.specs.Held.{first_passed}
+use Rattle.fk_store.specs.Conds.{session_of}
+use Rattle.fk_store.specs.Meaning as table
+use Rattle.fk_user.specs.Meaning as user
+use Rattle.fk_watch.specs.Meaning as watches
+use Rattle.fk_watch.specs.Notes.{fired_as}
+use Rattle.fk_wire.specs.NoteText.{note_text}
+use Rattle.fk_wire.specs.TellText.{tell_text}
+use Rattle.fk_wire.specs.declared.message.Tell.TheVariants as tell
+use Rattle.fk_wire.specs.declared.version.Version.TheVariants as version
+use Rattle.fk_lead.specs.Meaning.{Meaning, Swept}
+use Rattle.fk_lead.specs.Operation.{calm_op, is_pending, passed_as}
+use Rattle.fk_lead.specs.Services as lead
+use Rattle.fk_lead.specs.Services.{note_of, reply_tell, stage_post}
+use Rattle.fk_stand.specs.Messages.{done_tell, push_message_of, tell_of}
+use Rattle.fk_stand.specs.Posts.{lane_after, letter_in, post_after, removes}
+use Rattle.fk_spec.specs.Plan.{Plan, is_client}
+use Rattle.fk_spec.specs.Start.{Leads, request_of, task_of}
+use Rattle.fk_spec.specs.Settling.{Outcome, outcome_of}
+use Rattle.fk_spec.specs.Locks.{Passed}
+use Rattle.fk_spec.specs.Follower.{commit_locked, is_number}
+use Rattle.fk_spec.specs.Lanes.{follows_session, is_evict, leads, notifies, reply_message}
+use Rattle.fk_spec.specs.Leader as leader
+use Rattle.fk_spec.specs.Leader.{Stage}
+use Rattle.fk_spec.specs.Watches.{swept_by}
+use Rattle.fk_spec.specs.Next.{IsHistory}
+use Rattle.fk_agree.specs.Letters.{LeavesLane}
+use Rattle.fk_agree.proofs.Posting.{head_is_popped, letter_is_pushed}
+use Rattle.fk_agree.proofs.Serving.{LeavesPost, other_number, post_left}
+use Rattle.fk_agree_lead.specs.Leaders.{IsLeader}
+use Rattle.fk_agree_lead.proofs.Pushed.{its_push, lead_task}
+use Rattle.fk_agree_lead.proofs.Requested.{message_tells_its_request}
+use Rattle.fk_agree_lead.proofs.Tabled.{either}
+
+-- A note. -----------------------------------------------------------------------------------------------
+
+noted_elsewhere : (p : Plan) (n t w : ℕ) (h : List Entry) (q : Lane) → same_lane q lane.Watch ≡ false → LeavesLane p q h (op.Notify n t w)
+noted_elsewhere p n t w h lane.Leader e = record { none = refl; kept = refl }
+noted_elsewhere p n t w h lane.Watch e = absurd (false≢true (sym e))
+noted_elsewhere p n t w h (lane.Session c) e = record { none = refl; kept = refl }
+noted_elsewhere p n t w h (lane.Inbox c) e = record { none = refl; kept = refl }
+
+noted_post : (p : Plan) (n k faults : ℕ) (e : Entry) (h : List Entry) (m : Meaning) → IsLeader p n h m → e.op ≡ op.Notify m.inv m.tx k → pushed lane.Watch (note_text version.Two (note_of m)) (post_after p h faults) ≡ post_after p (e ∷ h) faults
+noted_post p n k faults e h m i g = letter_is_pushed p faults lane.Watch (note_text version.Two (note_of m)) e h refl its (λ q x. subst (LeavesLane p q h) (sym g) (noted_elsewhere p m.inv m.tx k h q x))
+  where
+    its : letter_in p lane.Watch h e.op ≡ Some (note_text version.Two (note_of m))
+    its =
+        ap (letter_in p lane.Watch h) g
+        ∙ ap (λ fs. Some (note_text version.Two (record { tx = m.tx; fired = fs }))) (ap (λ j. map fired_as (swept_by p j h).fired) i.inv ∙ sym (ap (λ z. z.fired) i.swept))
+
+-- A reply. ----------------------------------------------------------------------------------------------
+
+replied_elsewhere : (p : Plan) (n c k : ℕ) (h : List Entry) (q : Lane) → same_lane q (lane.Inbox c) ≡ false → LeavesLane p q h (op.Reply n c k)
+replied_elsewhere p n c k h lane.Leader e = record { none = refl; kept = refl }
+replied_elsewhere p n c k h lane.Watch e = record { none = refl; kept = refl }
+replied_elsewhere p n c k h (lane.Session d) e = record { none = refl; kept = refl }
+replied_elsewhere p n c k h (lane.Inbox d) e = record {
+  none = ap (λ b. option_map (tell_text version.Two) (option_and_then (tell_of p h) (cond b (reply_message (is_evict (request_of p d k h)) k (outcome_of d k h) (task_of n h)) None))) (other_number c d e);
+  kept = refl;
+}
+
+evicts_the_same : (r : Request) → is_evict (Some r) ≡ lead.is_evict r
+evicts_the_same (request.Close evict) = refl
+evicts_the_same r = refl
+
+told : (p : Plan) (h : List Entry) (m : Meaning) (b : Bool) → push_message_of p m.tx h ≡ Some m.message → (o : Option Outcome) → option_and_then (tell_of p h) (reply_message b m.message.k o (Some (Leads m.tx))) ≡ Some (if b then tell.Evicted m.message.k m.tx else done_tell m.message.k m.tx m.message)
+told p h m true a o = refl
+told p h m false a o = ap (option_map (done_tell m.message.k m.tx)) a
+
+replied_post : (p : Plan) (n faults : ℕ) (e : Entry) (h : List Entry) (m : Meaning) → IsHistory p h → IsLeader p n h m → e.op ≡ op.Reply m.inv m.message.session m.message.k → pushed (lane.Inbox m.message.session) (tell_text version.Two (reply_tell m.tx m.message)) (post_after p h faults) ≡ post_after p (e ∷ h) faults
+replied_post p n faults e h m l i g = letter_is_pushed p faults (lane.Inbox c) (tell_text version.Two (reply_tell m.tx m.message)) e h client its (λ q x. subst (LeavesLane p q h) (sym g) (replied_elsewhere p m.inv c k h q x))
+  where
+    c : ℕ
+    c = m.message.session
+
+    k : ℕ
+    k = m.message.k
+
+    client : is_client p c ≡ true
+    client = let x = its_push p n h m l i in ap (is_client p) x.tells.session ∙ x.client
+
+    evicts : is_evict (request_of p c k h) ≡ lead.is_evict m.message.request
+    evicts = ap is_evict (message_tells_its_request p m.tx h m.message l i.message) ∙ evicts_the_same m.message.request
+
+    task : task_of m.inv h ≡ Some (Leads m.tx)
+    task = ap (λ z. task_of z h) i.inv ∙ lead_task p n h m l i
+
+    its : letter_in p (lane.Inbox c) h e.op ≡ Some (tell_text version.Two (reply_tell m.tx m.message))
+    its =
+        ap (letter_in p (lane.Inbox c) h) g
+        ∙ (ap (λ b. option_map (tell_text version.Two) (option_and_then (tell_of p h) (cond b (reply_message (is_evict (request_of p c k h)) k (outcome_of c k h) (task_of m.inv h)) None))) (eq-eqb c c refl)
+        ∙ (ap (λ o. option_map (tell_text version.Two) (option_and_then (tell_of p h) (reply_message (is_evict (request_of p c k h)) k (outcome_of c k h) o))) task
+        ∙ (ap (option_map (tell_text version.Two)) (told p h m (is_evict (request_of p c k h)) i.message (outcome_of c k h))
+        ∙ ap (λ b. Some (tell_text version.Two (if b then tell.Evicted k m.tx else done_tell k m.tx m.message))) evicts)))
+
+-- An acknowledgement. -----------------------------------------------------------------------------------
+
+acked_elsewhere : (p : Plan) (n t : ℕ) (h : List Entry) (q : Lane) → task_of n h ≡ Some (Leads t) → same_lane q lane.Leader ≡ false → LeavesLane p q h (op.AckOk n)
+acked_elsewhere p n t h lane.Leader a e = absurd (false≢true (sym e))
+acked_elsewhere p n t h lane.Watch a e = record { none = refl; kept = ap notifies a }
+acked_elsewhere p n t h (lane.Session c) a e = record { none = refl; kept = ap (follows_session c) a }
+acked_elsewhere p n t h (lane.Inbox c) a e = record { none = refl; kept = refl }
+
+acked_post : (p : Plan) (n t faults : ℕ) (e : Entry) (h : List Entry) → e.op ≡ op.AckOk n → task_of n h ≡ Some (Leads t) → popped lane.Leader (post_after p h faults) ≡ post_after p (e ∷ h) faults
+acked_post p n t faults e h g a = head_is_popped p faults lane.Leader e h refl (ap (letter_in p lane.Leader h) g) (ap (removes lane.Leader h) g ∙ ap leads a) (λ q x. subst (LeavesLane p q h) (sym g) (acked_elsewhere p n t h q a x))
+
+same_number : (t : ℕ) (o : Option ℕ) → answers.is_number t o ≡ is_number t o
+same_number t None = refl
+same_number t (Some j) = refl
+
+ack_leaves : (p : Plan) (n t faults : ℕ) (e : Entry) (h : List Entry) → task_of n h ≡ Some (Leads t) → e.op ≡ (if is_number t (head_number (lane_after p lane.Leader h)) then op.AckOk n else op.AckGone n) → after_ack (post_after p h faults) lane.Leader (answers.ack_of (post_after p h faults) lane.Leader t) ≡ post_after p (e ∷ h) faults
+ack_leaves p n t faults e h a g = by_head (is_number t (head_number (lane_after p lane.Leader h))) refl g
+  where
+    answered : (b : Bool) → is_number t (head_number (lane_after p lane.Leader h)) ≡ b → after_ack (post_after p h faults) lane.Leader (answers.ack_of (post_after p h faults) lane.Leader t) ≡ after_ack (post_after p h faults) lane.Leader (if b then ack.Acked else ack.NotHead)
+    answered b f = ap (λ z. after_ack (post_after p h faults) lane.Leader (if z then ack.Acked else ack.NotHead)) (same_number t (head_number (lane_after p lane.Leader h)) ∙ f)
+
+    by_head : (b : Bool) → is_number t (head_number (lane_after p lane.Leader h)) ≡ b → e.op ≡ (if b then op.AckOk n else op.AckGone n) → after_ack (post_after p h faults) lane.Leader (answers.ack_of (post_after p h faults) lane.Leader t) ≡ post_after p (e ∷ h) faults
+    by_head true f b = answered true f ∙ acked_post p n t faults e h b a
+    by_head false f b = answered false f ∙ sym (post_left p faults e h (op.AckGone n) b tt)
+
+-- Each operation. ---------------------------------------------------------------------------------------
+
+commit_spares : (n t : ℕ) (o : Option Passed) → LeavesPost (commit_locked n t o)
+commit_spares n t None = tt
+commit_spares n t (Some x) = tt
+
+pub post_case : (p : Plan) (n faults : ℕ) (e : Entry) (h : List Entry) (m : Meaning) (t : table.Meaning) (w : watches.Watches) (u : user.Meaning) (s : Swept) (x : Stage) → IsHistory p (e ∷ h) → IsLeader p n h m → e.op ≡ calm_op t (post_after p h faults) w u s m x → stage_post (post_after p h faults) m x ≡ post_after p (e ∷ h) faults
+post_case p n faults e h m t w u s leader.Commit l i g =
+    let passed = option_map passed_as (first_passed m.message.inv t (in_path_order m.message.paths)) in
+    sym (post_left p faults e h (calm_op t (post_after p h faults) w u s m leader.Commit) g (either LeavesPost ((session_of t m.message.session).settled + 1 == m.message.k) (commit_locked m.inv m.tx passed) (op.CommitSettled m.inv m.tx (session_of t m.message.session).settled) (commit_spares m.inv m.tx passed) tt))
+post_case p n faults e h m t w u s leader.Pending l i g = sym (post_left p faults e h (calm_op t (post_after p h faults) w u s m leader.Pending) g (either LeavesPost (is_pending m.tx (session_of t m.message.session).pending) (op.PendingYes m.inv m.tx) (op.PendingNo m.inv m.tx) tt tt))
+post_case p n faults e h m t w u s leader.Drop l i g = sym (post_left p faults e h (calm_op t (post_after p h faults) w u s m leader.Drop) g (either LeavesPost (nat_lt t.done m.tx) (op.DropOk m.inv m.tx) (op.DropMiss m.inv m.tx t.done) tt tt))
+post_case p n faults e h m t w u s leader.Sweep l i g = sym (post_left p faults e h (calm_op t (post_after p h faults) w u s m leader.Sweep) g (either LeavesPost (nat_lt w.swept m.tx) (op.SweepOk m.inv m.tx (length s.fired)) (op.SweepMiss m.inv m.tx w.swept (length s.fired)) tt tt))
+post_case p n faults e h m t w u s (leader.Put path others) l i g = sym (post_left p faults e h (calm_op t (post_after p h faults) w u s m (leader.Put path others)) g (either LeavesPost (nat_lt (u.records path).stamp m.tx) (op.PutOk m.inv m.tx path) (op.PutMiss m.inv m.tx path (u.records path).stamp) tt tt))
+post_case p n faults e h m t w u s leader.Publish l i g = sym (post_left p faults e h (calm_op t (post_after p h faults) w u s m leader.Publish) g (either LeavesPost (nat_lt u.mark m.tx) (op.PublishOk m.inv m.tx) (op.PublishMiss m.inv m.tx u.mark) tt tt))
+post_case p n faults e h m t w u s leader.Notify l i g = noted_post p n ((lane_after p lane.Watch h).given + 1) faults e h m i g
+post_case p n faults e h m t w u s leader.Reply l i g = replied_post p n faults e h m l.0 i g
+post_case p n faults e h m t w u s leader.Done l i g = sym (post_left p faults e h (calm_op t (post_after p h faults) w u s m leader.Done) g (either LeavesPost (nat_lt t.done m.tx) (op.DoneOk m.inv m.tx) (op.DoneMiss m.inv m.tx t.done) tt tt))
+post_case p n faults e h m t w u s leader.Ack l i g = ack_leaves p m.inv m.tx faults e h (ap (λ z. task_of z h) i.inv ∙ lead_task p n h m l.0 i) g
+post_case p n faults e h m t w u s leader.Ended l i g = sym (post_left p faults e h op.Idle g tt)
