@@ -121,13 +121,13 @@ empty_record p q h l e = let u = never_edited p q h l e in (unedited_node q (com
 -- A grant. ----------------------------------------------------------------------------------------------
 
 -- the record of a path, with none counted as an empty one
-abbrev record_at : Plan → PathNames → List Entry → NodeRecord
+abbrev pub record_at : Plan → PathNames → List Entry → NodeRecord
 record_at p q h = or_no_record (cond (has_record q h) (Some (node_record p q h)) None)
 
-shows_node : (p : Plan) (q : PathNames) (h : List Entry) → IsHistory p h → (record_at p q h).node ≡ (stored_view p h).node q
+pub shows_node : (p : Plan) (q : PathNames) (h : List Entry) → IsHistory p h → (record_at p q h).node ≡ (stored_view p h).node q
 shows_node p q h l = by_test (has_record q h) (λ b. (or_no_record (cond b (Some (node_record p q h)) None)).node ≡ (stored_view p h).node q) (λ _. refl) (λ e. sym (empty_record p q h l e).0)
 
-shows_last : (p : Plan) (q : PathNames) (h : List Entry) → IsHistory p h → (record_at p q h).last ≡ last_edit p q h
+pub shows_last : (p : Plan) (q : PathNames) (h : List Entry) → IsHistory p h → (record_at p q h).last ≡ last_edit p q h
 shows_last p q h l = by_test (has_record q h) (λ b. (or_no_record (cond b (Some (node_record p q h)) None)).last ≡ last_edit p q h) (λ _. refl) (λ e. sym (empty_record p q h l e).1)
 
 -- the history with the grant

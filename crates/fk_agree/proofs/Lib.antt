@@ -6,12 +6,14 @@ pub mod Finishing
 pub mod Firing
 pub mod Granting
 pub mod Heading
+pub mod Held
 pub mod Listing
 pub mod Locking
 pub mod Posting
 pub mod Putting
 pub mod Serving
 pub mod Settling
+pub mod Sweeping
 pub mod Telling
 pub mod Watching
 pub mod Writing

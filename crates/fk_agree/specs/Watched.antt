@@ -1,14 +1,17 @@
 -- The table of watches after the lines of a history.
-use Rattle.std.specs.Prelude.{◌≡◌, ℕ, List, [], ◌∷◌, Some}
+use Rattle.std.specs.Prelude.{◌≡◌, ℕ, List, [], ◌∷◌, map, Some}
 use Rattle.fk_print.specs.declared.entry.Entry.{Entry}
 use Rattle.fk_print.specs.declared.op.Op.{Op}
 use Rattle.fk_print.specs.declared.op.Op.TheVariants as op
+use Rattle.fk_watch.specs.Answers.{AreFired, IsEpoch}
 use Rattle.fk_watch.specs.Meaning.{new_watches}
+use Rattle.fk_watch.specs.Notes.{fired_as}
 use Rattle.fk_watch.specs.Registering.{registered}
 use Rattle.fk_watch.specs.Sweeping.{swept_for, told_for}
+use Rattle.fk_wire.specs.declared.fired.Fired.{Fired}
 use Rattle.fk_stand.specs.Stores.{watch_as, watches_after}
 use Rattle.fk_spec.specs.Plan.{Plan, asked}
-use Rattle.fk_spec.specs.Watches.{Watch, touches_of_push, watch_asked}
+use Rattle.fk_spec.specs.Watches.{Watch, epoch_of, fired_by, fired_watches, touches_of_push, watch_asked}
 use Rattle.fk_spec.specs.Next.{IsHistory}
 
 -- A new table of watches is what the rules say of no history.
@@ -43,3 +46,11 @@ abbrev pub ToldIsWritten : Type 0
 ToldIsWritten =
     (p : Plan) (n t faults : ℕ) (e : Entry) (h : List Entry) → IsHistory p (e ∷ h) → e.op ≡ op.Told n t
     → told_for t (watches_after p h faults) ≡ watches_after p (e ∷ h) faults
+
+-- What the table lists of a push are the watches that it fired and that aren't told, as the rules list them.
+abbrev pub FiredAreTheRules : Type 0
+FiredAreTheRules = (p : Plan) (t faults : ℕ) (h : List Entry) (fs : List Fired) → IsHistory p h → AreFired t (watches_after p h faults).fired fs → fs ≡ map fired_as (fired_by t (fired_watches p h))
+
+-- So is its epoch that of the rules.
+abbrev pub EpochIsTheRules : Type 0
+EpochIsTheRules = (p : Plan) (faults : ℕ) (h : List Entry) (ids : List ℕ) → IsHistory p h → IsEpoch (watches_after p h faults).fired ids → ids ≡ epoch_of (fired_watches p h)

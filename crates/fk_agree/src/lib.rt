@@ -20,4 +20,6 @@ pub use tables::{
     commit_is_written, finish_is_written, grant_is_written, ping_is_written, refusal_is_written,
     table_starts_and_stays,
 };
-pub use watches::{registration_is_written, sweep_is_written, watches_start_and_stay};
+pub use watches::{
+    fired_are_the_rules, registration_is_written, sweep_is_written, watches_start_and_stay,
+};

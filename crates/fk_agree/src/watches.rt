@@ -1,4 +1,4 @@
-ghost use Rattle.fk_agree.specs.Watched.{NewWatchesStand, RegistrationIsWritten, SweepIsWritten, ToldIsWritten, WatchesStay};
+ghost use Rattle.fk_agree.specs.Watched.{EpochIsTheRules, FiredAreTheRules, NewWatchesStand, RegistrationIsWritten, SweepIsWritten, ToldIsWritten, WatchesStay};
 
 /// A law: a new table of watches is what the rules say of no history, and a line that neither registers a watch,
 /// nor sweeps, nor tells all that a push fired leaves the table.
@@ -16,4 +16,10 @@ pub fn registration_is_written()
 pub fn sweep_is_written()
     ensures swept { SweepIsWritten }
     ensures told { ToldIsWritten }
+{}
+
+/// A law: what the table lists of the fired watches is what the rules list, and so is its epoch.
+pub fn fired_are_the_rules()
+    ensures fired { FiredAreTheRules }
+    ensures epoch { EpochIsTheRules }
 {}

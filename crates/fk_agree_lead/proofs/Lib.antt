@@ -2,7 +2,6 @@ mod Given
 mod Going
 mod Making
 mod Needs
-mod Numbers
 mod Pending
 mod Posted
 mod Pushed

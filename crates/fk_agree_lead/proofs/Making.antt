@@ -1,11 +1,9 @@
 -- A leader makes the operation that the rules name, and the fault that they name.
 use Rattle.std.specs.Prelude.{◌==◌, nat_lt, if◌then◌else◌, length, map, option_map}
-use Rattle.std.proofs.Common.{◌≡◌, ℕ, suc, ◌+◌, Bool, true, false, cond, List, [], ◌∷◌, refl, sym, ◌∙◌, ap, subst, Option, Some, None}
+use Rattle.std.proofs.Common.{◌≡◌, ℕ, suc, ◌+◌, Bool, true, false, List, [], ◌∷◌, refl, sym, ◌∙◌, ap, subst, Option}
 use Rattle.std.proofs.lemmas.Bool.{false≢true}
-use Rattle.fk_base.specs.Path.{PathNames}
 use Rattle.fk_tree.specs.Sorted.{in_path_order}
 use Rattle.fk_tree.specs.Touch.{touches}
-use Rattle.fk_tree.proofs.Order.{by_test}
 use Rattle.fk_print.specs.declared.entry.Entry.{Entry}
 use Rattle.fk_print.specs.declared.event.Event.TheVariants as event
 use Rattle.fk_print.specs.declared.op.Op.{Op}
@@ -14,7 +12,6 @@ use Rattle.fk_queue.specs.Letters.{head_number}
 use Rattle.fk_queue.specs.Meaning as post
 use Rattle.fk_queue.specs.declared.lane.Lane.TheVariants as lane
 use Rattle.fk_store.specs.Conds.{session_of}
-use Rattle.fk_store.specs.Locks as store
 use Rattle.fk_store.specs.Meaning as table
 use Rattle.fk_store.specs.Meaning.{lock_of}
 use Rattle.fk_user.specs.Meaning as user
@@ -28,9 +25,9 @@ use Rattle.fk_lead.specs.Operation.{calm_op, is_armed, passed_as, step_op}
 use Rattle.fk_lead.specs.Sweeping.{AreSwept, IsSweepOf, given_at, swept_at}
 use Rattle.fk_stand.specs.Standing.{Standing}
 use Rattle.fk_stand.specs.Stores.{watches_after}
-use Rattle.fk_stand.specs.Tables.{lock_from, table_after}
+use Rattle.fk_stand.specs.Tables.{table_after}
 use Rattle.fk_spec.specs.Plan.{Plan}
-use Rattle.fk_spec.specs.Locks.{Grant, Passed, first_passed, granted, is_held_by, last_grant, passed_on}
+use Rattle.fk_spec.specs.Locks.{Passed, first_passed, granted}
 use Rattle.fk_spec.specs.Settling.{settled_of, swept_of}
 use Rattle.fk_spec.specs.Watches.{Firing, fired_after, fired_by, fired_watches, firings, set_watches, touches_from, touches_of_push}
 use Rattle.fk_spec.specs.Failing.{or_fault}
@@ -42,7 +39,7 @@ use Rattle.fk_spec.specs.Next.{IsHistory, next_entry}
 use Rattle.fk_law.proofs.Leading.{leader_stands_where_it_may}
 use Rattle.fk_agree.specs.Watched.{LeavesWatches}
 use Rattle.fk_agree.proofs.Counting.{heads_are_the_rules, lanes_are_counted}
-use Rattle.fk_agree.proofs.Locking.{holds_the_same, lock_is}
+use Rattle.fk_agree.proofs.Held.{passed_same}
 use Rattle.fk_agree.proofs.Serving.{lane_is, session_is}
 use Rattle.fk_agree.proofs.Watching.{sweep_is_written, watches_stay}
 use Rattle.fk_agree_lead.specs.Leaders.{IsLeader, LeaderFails, LeaderMakesItsOperation, swept_as}
@@ -89,18 +86,6 @@ leader_fails p n h m t q u w s i = leader_faults p n h m t q u w s i ∙ (ap (λ
 
 -- A commit. ---------------------------------------------------------------------------------------------
 
-passed_there : (p : Plan) (h : List Entry) (faults : ℕ) (q : PathNames) → passed_as (settle.passed_on q (lock_of (table_after p h faults) q)) ≡ passed_on q (last_grant q h)
-passed_there p h faults q = ap (λ l. passed_as (settle.passed_on q l)) (lock_is p h faults q) ∙ by_grant (last_grant q h)
-  where
-    by_grant : (o : Option Grant) → passed_as (settle.passed_on q (lock_from h o)) ≡ passed_on q o
-    by_grant None = refl
-    by_grant (Some g) = refl
-
--- the first lock that passed on is the one that the rules find
-pub passed_the_same : (p : Plan) (n : ℕ) (h : List Entry) (faults : ℕ) (ps : List PathNames) → option_map passed_as (settle.first_passed n (table_after p h faults) ps) ≡ first_passed n h ps
-passed_the_same p n h faults [] = refl
-passed_the_same p n h faults (q ∷ ps) = by_test (store.is_held_by n (lock_of (table_after p h faults) q)) (λ b. is_held_by n h (last_grant q h) ≡ b → option_map passed_as (cond b (settle.first_passed n (table_after p h faults) ps) (Some (settle.passed_on q (lock_of (table_after p h faults) q)))) ≡ first_passed n h (q ∷ ps)) (λ _ e. passed_the_same p n h faults ps ∙ sym (ap (λ b. cond b (first_passed n h ps) (Some (passed_on q (last_grant q h)))) e)) (λ _ e. ap Some (passed_there p h faults q) ∙ sym (ap (λ b. cond b (first_passed n h ps) (Some (passed_on q (last_grant q h)))) e)) (sym (holds_the_same p n h faults q))
-
 -- the operation of a commit, by what it finds
 abbrev pub committing : ℕ → ℕ → ℕ → ℕ → Option Passed → Op
 committing n t settled k passed = if settled + 1 == k then commit_locked n t passed else op.CommitSettled n t settled
@@ -112,7 +97,7 @@ settled_found p h m t s x = ap (λ z. (session_of t z).settled) x.tells.session 
 pub passed_found : (p : Plan) (h : List Entry) (m : Meaning) (t : table.Meaning) → t ≡ table_after p h t.faults → (x : HasPush p h m) → option_map passed_as (settle.first_passed m.message.inv t (in_path_order m.message.paths)) ≡ first_passed x.holder h (in_path_order (granted x.holder h))
 passed_found p h m t s x =
     ap (λ z. option_map passed_as (settle.first_passed m.message.inv z (in_path_order m.message.paths))) s
-    ∙ (passed_the_same p m.message.inv h t.faults (in_path_order m.message.paths) ∙ (λ i. first_passed ((x.tells.inv) i) h (in_path_order ((x.tells.paths) i))))
+    ∙ (passed_same p m.message.inv t.faults h (in_path_order m.message.paths) ∙ (λ i. first_passed ((x.tells.inv) i) h (in_path_order ((x.tells.paths) i))))
 
 pub commit_found : (p : Plan) (h : List Entry) (m : Meaning) (t : table.Meaning) → t ≡ table_after p h t.faults → (x : HasPush p h m) → lead.commit_op t m.inv m.tx m.message ≡ committing m.inv m.tx (settled_of x.session h) x.k (first_passed x.holder h (in_path_order (granted x.holder h)))
 commit_found p h m t s x = λ i. committing m.inv m.tx ((settled_found p h m t s x) i) ((x.tells.number) i) ((passed_found p h m t s x) i)

@@ -40,11 +40,11 @@ use Rattle.fk_law_watch.proofs.Handing.{swept_by_stays, swept_now, done_mark}
 same_tests : (x id : ℕ) → (x == id) ≡ is_eq (nat_cmp id x)
 same_tests x id = grind (arith, nat_tests)
 
-pub contains_has : (id : ℕ) (xs : List ℕ) → contains id xs ≡ has nat_cmp id xs
+contains_has : (id : ℕ) (xs : List ℕ) → contains id xs ≡ has nat_cmp id xs
 contains_has id [] = refl
 contains_has id (x ∷ xs) = λ i. (same_tests x id) i || (contains_has id xs) i
 
-pub sorted_has : (id : ℕ) (xs : List ℕ) → has nat_cmp id (sorted nat_cmp xs) ≡ has nat_cmp id xs
+sorted_has : (id : ℕ) (xs : List ℕ) → has nat_cmp id (sorted nat_cmp xs) ≡ has nat_cmp id xs
 sorted_has id [] = refl
 sorted_has id (x ∷ xs) = has_with nat_cmp_total nat_cmp-IsAntisymmetric id x (sorted nat_cmp xs) ∙ ap (λ b. is_eq (nat_cmp id x) || b) (sorted_has id xs)
 

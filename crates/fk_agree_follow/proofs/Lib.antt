@@ -1,0 +1,10 @@
+mod Bounding
+mod Fitting
+mod Going
+mod Making
+mod Operating
+mod Posting
+mod Reading
+mod Starting
+mod Staying
+mod Writing
