@@ -1,17 +1,12 @@
 -- A leader goes on after its operation, or has ended.
-use Rattle.std.specs.Prelude.{◌==◌, nat_lt, if◌then◌else◌, length, map, option_map}
-use Rattle.std.proofs.Common.{◌≡◌, ℕ, ◌+◌, inl, inr, ◌⊎◌, Bool, true, false, List, [], ◌∷◌, refl, sym, ◌∙◌, ap, subst, arith, Option, Some, None}
+use Rattle.std.specs.Prelude.{length, map}
+use Rattle.std.proofs.Common.{◌≡◌, ℕ, inl, inr, ◌⊎◌, false, List, [], ◌∷◌, refl, sym, ◌∙◌, ap, subst, arith, Some}
 use Rattle.std.proofs.lemmas.Bool.{false≢true}
-use Rattle.fk_tree.specs.Sorted.{in_path_order}
 use Rattle.fk_tree.specs.Touch.{edited_paths}
 use Rattle.fk_print.specs.declared.entry.Entry.{Entry}
 use Rattle.fk_print.specs.declared.op.Op.{Op}
 use Rattle.fk_print.specs.declared.op.Op.TheVariants as op
-use Rattle.fk_queue.specs.Letters.{head_number}
 use Rattle.fk_queue.specs.Meaning as post
-use Rattle.fk_queue.specs.declared.lane.Lane.TheVariants as lane
-use Rattle.fk_settle.specs.Held.{first_passed}
-use Rattle.fk_store.specs.Conds.{session_of}
 use Rattle.fk_store.specs.Meaning as table
 use Rattle.fk_user.specs.Meaning as user
 use Rattle.fk_watch.specs.Meaning as watches
@@ -19,13 +14,11 @@ use Rattle.fk_watch.specs.Notes.{fired_as}
 use Rattle.fk_lead.specs.Meaning.{Meaning, Swept, is_end, is_ended, paths_of}
 use Rattle.fk_lead.specs.Next as lead
 use Rattle.fk_lead.specs.Next.{after_step, next_with}
-use Rattle.fk_lead.specs.Operation.{calm_op, is_pending, passed_as, step_op, sweep_op}
+use Rattle.fk_lead.specs.Operation.{calm_op, step_op, sweep_op}
 use Rattle.fk_lead.specs.Sweeping.{IsGiven, given_at}
 use Rattle.fk_stand.specs.Messages.{push_message_of}
 use Rattle.fk_stand.specs.Standing.{Standing}
 use Rattle.fk_spec.specs.Plan.{Plan}
-use Rattle.fk_spec.specs.Follower.{commit_locked, is_number}
-use Rattle.fk_spec.specs.Locks.{Passed}
 use Rattle.fk_spec.specs.Stored.{committed_as}
 use Rattle.fk_spec.specs.Watches.{Firing, fired_watches, sweep_in, swept_by, swept_or}
 use Rattle.fk_spec.specs.Leader as leader
@@ -41,7 +34,7 @@ use Rattle.fk_agree.specs.Ends.{HasEnded}
 use Rattle.fk_agree.proofs.Heading.{message_stays}
 use Rattle.fk_agree_lead.specs.Leaders.{IsLeader, LeaderEndsAtItsFault, LeaderGoesOn, swept_as}
 use Rattle.fk_agree_lead.proofs.Given.{listed_of}
-use Rattle.fk_agree_lead.proofs.Making.{calm_leader, given_is_listed, leader_faults}
+use Rattle.fk_agree_lead.proofs.Making.{May, calm_leader, given_is_listed, leader_faults, may}
 use Rattle.fk_agree_lead.proofs.Pushed.{HasCommit, its_commit}
 
 -- What comes after each answer. -------------------------------------------------------------------------
@@ -143,26 +136,18 @@ after_place p n g m leader.Ended s e f w a = inr (record { is_so = refl; absent 
 abbrev IsOf : ℕ → Op → Type 0
 IsOf n o = actor o ≡ Some n
 
-either : (n : ℕ) (b : Bool) (x y : Op) → IsOf n x → IsOf n y → IsOf n (if b then x else y)
-either n true x y i j = i
-either n false x y i j = j
-
-commit_of_it : (n t : ℕ) (o : Option Passed) → IsOf n (commit_locked n t o)
-commit_of_it n t None = refl
-commit_of_it n t (Some x) = refl
-
-of_it : (t : table.Meaning) (q : post.Meaning) (w : watches.Watches) (u : user.Meaning) (s : Swept) (m : Meaning) (x : Stage) → is_end x ≡ false → IsOf m.inv (calm_op t q w u s m x)
-of_it t q w u s m leader.Commit e = either m.inv ((session_of t m.message.session).settled + 1 == m.message.k) (commit_locked m.inv m.tx (option_map passed_as (first_passed m.message.inv t (in_path_order m.message.paths)))) (op.CommitSettled m.inv m.tx (session_of t m.message.session).settled) (commit_of_it m.inv m.tx (option_map passed_as (first_passed m.message.inv t (in_path_order m.message.paths)))) refl
-of_it t q w u s m leader.Pending e = either m.inv (is_pending m.tx (session_of t m.message.session).pending) (op.PendingYes m.inv m.tx) (op.PendingNo m.inv m.tx) refl refl
-of_it t q w u s m leader.Drop e = either m.inv (nat_lt t.done m.tx) (op.DropOk m.inv m.tx) (op.DropMiss m.inv m.tx t.done) refl refl
-of_it t q w u s m leader.Sweep e = either m.inv (nat_lt w.swept m.tx) (op.SweepOk m.inv m.tx (length s.fired)) (op.SweepMiss m.inv m.tx w.swept (length s.fired)) refl refl
-of_it t q w u s m (leader.Put path others) e = either m.inv (nat_lt (u.records path).stamp m.tx) (op.PutOk m.inv m.tx path) (op.PutMiss m.inv m.tx path (u.records path).stamp) refl refl
-of_it t q w u s m leader.Publish e = either m.inv (nat_lt u.mark m.tx) (op.PublishOk m.inv m.tx) (op.PublishMiss m.inv m.tx u.mark) refl refl
-of_it t q w u s m leader.Notify e = refl
-of_it t q w u s m leader.Reply e = refl
-of_it t q w u s m leader.Done e = either m.inv (nat_lt t.done m.tx) (op.DoneOk m.inv m.tx) (op.DoneMiss m.inv m.tx t.done) refl refl
-of_it t q w u s m leader.Ack e = either m.inv (is_number m.tx (head_number (q.lanes lane.Leader))) (op.AckOk m.inv) (op.AckGone m.inv) refl refl
-of_it t q w u s m leader.Ended e = absurd (false≢true (sym e))
+all_of : (m : Meaning) (x : Stage) → is_end x ≡ false → May (IsOf m.inv) m x
+all_of m leader.Commit e = (refl, (λ a. refl), (λ path a b. refl))
+all_of m leader.Pending e = (refl, refl)
+all_of m leader.Drop e = (refl, (λ a. refl))
+all_of m leader.Sweep e = ((λ a. refl), (λ a b. refl))
+all_of m (leader.Put path others) e = (refl, (λ a. refl))
+all_of m leader.Publish e = (refl, (λ a. refl))
+all_of m leader.Notify e = λ a. refl
+all_of m leader.Reply e = refl
+all_of m leader.Done e = (refl, (λ a. refl))
+all_of m leader.Ack e = (refl, refl)
+all_of m leader.Ended e = absurd (false≢true (sym e))
 
 at_sweep : (n : ℕ) (m : Meaning) (o : Op) → SweepsIt o n m → IsSweep o → m.stage ≡ leader.Sweep
 at_sweep n m (op.SweepOk k t fired) x y = x.2
@@ -188,7 +173,7 @@ goes p n e h m t q u w s l a i y g = record {
     calm = g ∙ calm_leader p h t q u w s m a
 
     its : actor e.op ≡ Some n
-    its = ap actor calm ∙ (of_it t q w u s m m.stage i.going ∙ ap Some i.inv)
+    its = ap actor calm ∙ (may (IsOf m.inv) t q w u s m m.stage (all_of m m.stage i.going) ∙ ap Some i.inv)
 
     sweeps : SweepsIt e.op n m
     sweeps = sweeps_it p n h m e.op (due p e h l) i.stands its

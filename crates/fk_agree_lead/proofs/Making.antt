@@ -1,7 +1,8 @@
 -- A leader makes the operation that the rules name, and the fault that they name.
 use Rattle.std.specs.Prelude.{◌==◌, nat_lt, if◌then◌else◌, length, map, option_map}
-use Rattle.std.proofs.Common.{◌≡◌, ℕ, suc, ◌+◌, Bool, true, false, List, [], ◌∷◌, refl, sym, ◌∙◌, ap, subst, Option}
-use Rattle.std.proofs.lemmas.Bool.{false≢true}
+use Rattle.std.proofs.Common.{◌≡◌, ℕ, suc, ◌+◌, Bool, true, false, List, [], ◌∷◌, refl, sym, ◌∙◌, ap, subst, Option, Some, None}
+use Rattle.std.proofs.lemmas.Bool.{cond_both, false≢true}
+use Rattle.fk_base.specs.Path.{PathNames}
 use Rattle.fk_tree.specs.Sorted.{in_path_order}
 use Rattle.fk_tree.specs.Touch.{touches}
 use Rattle.fk_print.specs.declared.entry.Entry.{Entry}
@@ -31,7 +32,7 @@ use Rattle.fk_spec.specs.Locks.{Passed, first_passed, granted}
 use Rattle.fk_spec.specs.Settling.{settled_of, swept_of}
 use Rattle.fk_spec.specs.Watches.{Firing, fired_after, fired_by, fired_watches, firings, set_watches, touches_from, touches_of_push}
 use Rattle.fk_spec.specs.Failing.{or_fault}
-use Rattle.fk_spec.specs.Follower.{ack_op, commit_locked, commit_op}
+use Rattle.fk_spec.specs.Follower.{ack_op, commit_locked, commit_op, is_number}
 use Rattle.fk_spec.specs.Leader as leader
 use Rattle.fk_spec.specs.Leader.{Stage, leader_op, sweep_op}
 use Rattle.fk_spec.specs.Function.{Leading, fault_op, function_op, leader_word, place_of}
@@ -46,6 +47,46 @@ use Rattle.fk_agree_lead.specs.Leaders.{IsLeader, LeaderFails, LeaderMakesItsOpe
 use Rattle.fk_agree_lead.proofs.Given.{listed_of, newly_listed, swept_is_listed}
 use Rattle.fk_agree_lead.proofs.Pending.{pending_the_same}
 use Rattle.fk_agree_lead.proofs.Pushed.{HasCommit, HasPush, its_commit, its_push, of_push_is}
+
+-- The operations that it may make. ----------------------------------------------------------------------
+
+-- this holds of each operation that it may make where it stands
+abbrev pub May : (Op → Type 0) → Meaning → Stage → Type 0
+May P m leader.Commit = P (op.CommitOk m.inv m.tx) × ((a : ℕ) → P (op.CommitSettled m.inv m.tx a)) × ((path : PathNames) (a b : ℕ) → P (op.CommitLock m.inv m.tx path a b))
+May P m leader.Pending = P (op.PendingYes m.inv m.tx) × P (op.PendingNo m.inv m.tx)
+May P m leader.Drop = P (op.DropOk m.inv m.tx) × ((a : ℕ) → P (op.DropMiss m.inv m.tx a))
+May P m leader.Sweep = ((a : ℕ) → P (op.SweepOk m.inv m.tx a)) × ((a b : ℕ) → P (op.SweepMiss m.inv m.tx a b))
+May P m (leader.Put path others) = P (op.PutOk m.inv m.tx path) × ((a : ℕ) → P (op.PutMiss m.inv m.tx path a))
+May P m leader.Publish = P (op.PublishOk m.inv m.tx) × ((a : ℕ) → P (op.PublishMiss m.inv m.tx a))
+May P m leader.Notify = (a : ℕ) → P (op.Notify m.inv m.tx a)
+May P m leader.Reply = P (op.Reply m.inv m.message.session m.message.k)
+May P m leader.Done = P (op.DoneOk m.inv m.tx) × ((a : ℕ) → P (op.DoneMiss m.inv m.tx a))
+May P m leader.Ack = P (op.AckOk m.inv) × P (op.AckGone m.inv)
+May P m leader.Ended = P op.Idle
+
+either : (P : Op → Type 0) (b : Bool) (x y : Op) → P x → P y → P (if b then x else y)
+either P b x y i j = cond_both b x y P (λ _. i) (λ _. j)
+
+locked : (P : Op → Type 0) (n t : ℕ) (o : Option Passed) → P (op.CommitOk n t) → ((path : PathNames) (a b : ℕ) → P (op.CommitLock n t path a b)) → P (commit_locked n t o)
+locked P n t None i j = i
+locked P n t (Some x) i j = j x.path x.holder x.moment
+
+-- so it holds of the one that it makes
+pub may : (P : Op → Type 0) (t : table.Meaning) (q : post.Meaning) (w : watches.Watches) (u : user.Meaning) (s : Swept) (m : Meaning) (x : Stage) → May P m x → P (calm_op t q w u s m x)
+may P t q w u s m leader.Commit i =
+    let passed = option_map passed_as (settle.first_passed m.message.inv t (in_path_order m.message.paths)) in
+    let settled = (session_of t m.message.session).settled in
+    either P (settled + 1 == m.message.k) (commit_locked m.inv m.tx passed) (op.CommitSettled m.inv m.tx settled) (locked P m.inv m.tx passed i.0 i.2) (i.1 settled)
+may P t q w u s m leader.Pending i = either P (lead.is_pending m.tx (session_of t m.message.session).pending) (op.PendingYes m.inv m.tx) (op.PendingNo m.inv m.tx) i.0 i.1
+may P t q w u s m leader.Drop i = either P (nat_lt t.done m.tx) (op.DropOk m.inv m.tx) (op.DropMiss m.inv m.tx t.done) i.0 (i.1 t.done)
+may P t q w u s m leader.Sweep i = either P (nat_lt w.swept m.tx) (op.SweepOk m.inv m.tx (length s.fired)) (op.SweepMiss m.inv m.tx w.swept (length s.fired)) (i.0 (length s.fired)) (i.1 w.swept (length s.fired))
+may P t q w u s m (leader.Put path others) i = either P (nat_lt (u.records path).stamp m.tx) (op.PutOk m.inv m.tx path) (op.PutMiss m.inv m.tx path (u.records path).stamp) i.0 (i.1 (u.records path).stamp)
+may P t q w u s m leader.Publish i = either P (nat_lt u.mark m.tx) (op.PublishOk m.inv m.tx) (op.PublishMiss m.inv m.tx u.mark) i.0 (i.1 u.mark)
+may P t q w u s m leader.Notify i = i ((q.lanes lane.Watch).given + 1)
+may P t q w u s m leader.Reply i = i
+may P t q w u s m leader.Done i = either P (nat_lt t.done m.tx) (op.DoneOk m.inv m.tx) (op.DoneMiss m.inv m.tx t.done) i.0 (i.1 t.done)
+may P t q w u s m leader.Ack i = either P (is_number m.tx (head_number (q.lanes lane.Leader))) (op.AckOk m.inv) (op.AckGone m.inv) i.0 i.1
+may P t q w u s m leader.Ended i = i
 
 -- Where the services are calm, and where they fail. -----------------------------------------------------
 

@@ -1,8 +1,7 @@
 -- What the post holds after a leader's operation.
-use Rattle.std.specs.Prelude.{◌==◌, ◌+◌, nat_lt, if◌then◌else◌, length, map, option_and_then, option_map}
+use Rattle.std.specs.Prelude.{◌+◌, if◌then◌else◌, map, option_and_then, option_map}
 use Rattle.std.proofs.Common.{◌≡◌, ℕ, Bool, true, false, cond, List, ◌∷◌, refl, sym, ◌∙◌, ap, subst, Option, Some, None}
 use Rattle.std.proofs.lemmas.Bool.{eq-eqb, false≢true}
-use Rattle.fk_tree.specs.Sorted.{in_path_order}
 use Rattle.fk_tree.specs.declared.request.Request.{Request}
 use Rattle.fk_tree.specs.declared.request.Request.TheVariants as request
 use Rattle.fk_print.specs.declared.entry.Entry.{Entry}
@@ -15,8 +14,6 @@ use Rattle.fk_queue.specs.Meaning.{popped, pushed}
 use Rattle.fk_queue.specs.declared.answer.Ack.TheVariants as ack
 use Rattle.fk_queue.specs.declared.lane.Lane.{Lane}
 use Rattle.fk_queue.specs.declared.lane.Lane.TheVariants as lane
-use Rattle.fk_settle.specs.Held.{first_passed}
-use Rattle.fk_store.specs.Conds.{session_of}
 use Rattle.fk_store.specs.Meaning as table
 use Rattle.fk_user.specs.Meaning as user
 use Rattle.fk_watch.specs.Meaning as watches
@@ -26,7 +23,7 @@ use Rattle.fk_wire.specs.TellText.{tell_text}
 use Rattle.fk_wire.specs.declared.message.Tell.TheVariants as tell
 use Rattle.fk_wire.specs.declared.version.Version.TheVariants as version
 use Rattle.fk_lead.specs.Meaning.{Meaning, Swept}
-use Rattle.fk_lead.specs.Operation.{calm_op, is_pending, passed_as}
+use Rattle.fk_lead.specs.Operation.{calm_op}
 use Rattle.fk_lead.specs.Services as lead
 use Rattle.fk_lead.specs.Services.{note_of, reply_tell, stage_post}
 use Rattle.fk_stand.specs.Messages.{done_tell, push_message_of, tell_of}
@@ -34,8 +31,7 @@ use Rattle.fk_stand.specs.Posts.{lane_after, letter_in, post_after, removes}
 use Rattle.fk_spec.specs.Plan.{Plan, is_client}
 use Rattle.fk_spec.specs.Start.{Leads, request_of, task_of}
 use Rattle.fk_spec.specs.Settling.{Outcome, outcome_of}
-use Rattle.fk_spec.specs.Locks.{Passed}
-use Rattle.fk_spec.specs.Follower.{commit_locked, is_number}
+use Rattle.fk_spec.specs.Follower.{is_number}
 use Rattle.fk_spec.specs.Lanes.{follows_session, is_evict, leads, notifies, reply_message}
 use Rattle.fk_spec.specs.Leader as leader
 use Rattle.fk_spec.specs.Leader.{Stage}
@@ -45,9 +41,9 @@ use Rattle.fk_agree.specs.Letters.{LeavesLane}
 use Rattle.fk_agree.proofs.Posting.{head_is_popped, letter_is_pushed}
 use Rattle.fk_agree.proofs.Serving.{LeavesPost, other_number, post_left}
 use Rattle.fk_agree_lead.specs.Leaders.{IsLeader}
+use Rattle.fk_agree_lead.proofs.Making.{may}
 use Rattle.fk_agree_lead.proofs.Pushed.{its_push, lead_task}
 use Rattle.fk_agree_lead.proofs.Requested.{message_tells_its_request}
-use Rattle.fk_agree_lead.proofs.Tabled.{either}
 
 -- A note. -----------------------------------------------------------------------------------------------
 
@@ -137,21 +133,15 @@ ack_leaves p n t faults e h a g = by_head (is_number t (head_number (lane_after 
 
 -- Each operation. ---------------------------------------------------------------------------------------
 
-commit_spares : (n t : ℕ) (o : Option Passed) → LeavesPost (commit_locked n t o)
-commit_spares n t None = tt
-commit_spares n t (Some x) = tt
-
 pub post_case : (p : Plan) (n faults : ℕ) (e : Entry) (h : List Entry) (m : Meaning) (t : table.Meaning) (w : watches.Watches) (u : user.Meaning) (s : Swept) (x : Stage) → IsHistory p (e ∷ h) → IsLeader p n h m → e.op ≡ calm_op t (post_after p h faults) w u s m x → stage_post (post_after p h faults) m x ≡ post_after p (e ∷ h) faults
-post_case p n faults e h m t w u s leader.Commit l i g =
-    let passed = option_map passed_as (first_passed m.message.inv t (in_path_order m.message.paths)) in
-    sym (post_left p faults e h (calm_op t (post_after p h faults) w u s m leader.Commit) g (either LeavesPost ((session_of t m.message.session).settled + 1 == m.message.k) (commit_locked m.inv m.tx passed) (op.CommitSettled m.inv m.tx (session_of t m.message.session).settled) (commit_spares m.inv m.tx passed) tt))
-post_case p n faults e h m t w u s leader.Pending l i g = sym (post_left p faults e h (calm_op t (post_after p h faults) w u s m leader.Pending) g (either LeavesPost (is_pending m.tx (session_of t m.message.session).pending) (op.PendingYes m.inv m.tx) (op.PendingNo m.inv m.tx) tt tt))
-post_case p n faults e h m t w u s leader.Drop l i g = sym (post_left p faults e h (calm_op t (post_after p h faults) w u s m leader.Drop) g (either LeavesPost (nat_lt t.done m.tx) (op.DropOk m.inv m.tx) (op.DropMiss m.inv m.tx t.done) tt tt))
-post_case p n faults e h m t w u s leader.Sweep l i g = sym (post_left p faults e h (calm_op t (post_after p h faults) w u s m leader.Sweep) g (either LeavesPost (nat_lt w.swept m.tx) (op.SweepOk m.inv m.tx (length s.fired)) (op.SweepMiss m.inv m.tx w.swept (length s.fired)) tt tt))
-post_case p n faults e h m t w u s (leader.Put path others) l i g = sym (post_left p faults e h (calm_op t (post_after p h faults) w u s m (leader.Put path others)) g (either LeavesPost (nat_lt (u.records path).stamp m.tx) (op.PutOk m.inv m.tx path) (op.PutMiss m.inv m.tx path (u.records path).stamp) tt tt))
-post_case p n faults e h m t w u s leader.Publish l i g = sym (post_left p faults e h (calm_op t (post_after p h faults) w u s m leader.Publish) g (either LeavesPost (nat_lt u.mark m.tx) (op.PublishOk m.inv m.tx) (op.PublishMiss m.inv m.tx u.mark) tt tt))
+post_case p n faults e h m t w u s leader.Commit l i g = sym (post_left p faults e h (calm_op t (post_after p h faults) w u s m leader.Commit) g (may LeavesPost t (post_after p h faults) w u s m leader.Commit (tt, (λ a. tt), (λ path a b. tt))))
+post_case p n faults e h m t w u s leader.Pending l i g = sym (post_left p faults e h (calm_op t (post_after p h faults) w u s m leader.Pending) g (may LeavesPost t (post_after p h faults) w u s m leader.Pending (tt, tt)))
+post_case p n faults e h m t w u s leader.Drop l i g = sym (post_left p faults e h (calm_op t (post_after p h faults) w u s m leader.Drop) g (may LeavesPost t (post_after p h faults) w u s m leader.Drop (tt, (λ a. tt))))
+post_case p n faults e h m t w u s leader.Sweep l i g = sym (post_left p faults e h (calm_op t (post_after p h faults) w u s m leader.Sweep) g (may LeavesPost t (post_after p h faults) w u s m leader.Sweep ((λ a. tt), (λ a b. tt))))
+post_case p n faults e h m t w u s (leader.Put path others) l i g = sym (post_left p faults e h (calm_op t (post_after p h faults) w u s m (leader.Put path others)) g (may LeavesPost t (post_after p h faults) w u s m (leader.Put path others) (tt, (λ a. tt))))
+post_case p n faults e h m t w u s leader.Publish l i g = sym (post_left p faults e h (calm_op t (post_after p h faults) w u s m leader.Publish) g (may LeavesPost t (post_after p h faults) w u s m leader.Publish (tt, (λ a. tt))))
 post_case p n faults e h m t w u s leader.Notify l i g = noted_post p n ((lane_after p lane.Watch h).given + 1) faults e h m i g
 post_case p n faults e h m t w u s leader.Reply l i g = replied_post p n faults e h m l.0 i g
-post_case p n faults e h m t w u s leader.Done l i g = sym (post_left p faults e h (calm_op t (post_after p h faults) w u s m leader.Done) g (either LeavesPost (nat_lt t.done m.tx) (op.DoneOk m.inv m.tx) (op.DoneMiss m.inv m.tx t.done) tt tt))
+post_case p n faults e h m t w u s leader.Done l i g = sym (post_left p faults e h (calm_op t (post_after p h faults) w u s m leader.Done) g (may LeavesPost t (post_after p h faults) w u s m leader.Done (tt, (λ a. tt))))
 post_case p n faults e h m t w u s leader.Ack l i g = ack_leaves p m.inv m.tx faults e h (ap (λ z. task_of z h) i.inv ∙ lead_task p n h m l.0 i) g
-post_case p n faults e h m t w u s leader.Ended l i g = sym (post_left p faults e h op.Idle g tt)
+post_case p n faults e h m t w u s leader.Ended l i g = sym (post_left p faults e h (calm_op t (post_after p h faults) w u s m leader.Ended) g (may LeavesPost t (post_after p h faults) w u s m leader.Ended tt))

@@ -1,13 +1,10 @@
 -- What the table holds after a leader's operation.
-use Rattle.std.specs.Prelude.{◌==◌, nat_lt, if◌then◌else◌, length}
+use Rattle.std.specs.Prelude.{◌==◌, nat_lt, if◌then◌else◌}
 use Rattle.std.proofs.Common.{◌≡◌, ℕ, ◌+◌, ◌≤◌, Bool, true, false, List, ◌∷◌, refl, sym, ◌∙◌, ap, subst, Some, None}
 use Rattle.fk_tree.specs.Sorted.{in_path_order}
 use Rattle.fk_print.specs.declared.entry.Entry.{Entry}
-use Rattle.fk_print.specs.declared.op.Op.{Op}
 use Rattle.fk_print.specs.declared.op.Op.TheVariants as op
-use Rattle.fk_queue.specs.Letters.{head_number}
 use Rattle.fk_queue.specs.Meaning as post
-use Rattle.fk_queue.specs.declared.lane.Lane.TheVariants as lane
 use Rattle.fk_settle.specs.Held.{first_passed}
 use Rattle.fk_settle.specs.Transaction.{commit_writes, transacted, written_unless}
 use Rattle.fk_store.specs.Conds.{Miss, found_at, session_of}
@@ -18,11 +15,11 @@ use Rattle.fk_store.specs.declared.cond.Cond.TheVariants as cond
 use Rattle.fk_user.specs.Meaning as user
 use Rattle.fk_watch.specs.Meaning as watches
 use Rattle.fk_lead.specs.Meaning.{Meaning, Swept}
-use Rattle.fk_lead.specs.Operation.{calm_op, commit_op, is_pending}
+use Rattle.fk_lead.specs.Operation.{calm_op, commit_op}
 use Rattle.fk_lead.specs.Services.{done_writes, drop_writes, finish_conds, stage_table}
 use Rattle.fk_stand.specs.Tables.{table_after}
 use Rattle.fk_spec.specs.Plan.{Plan}
-use Rattle.fk_spec.specs.Follower.{commit_locked, is_number}
+use Rattle.fk_spec.specs.Follower.{commit_locked}
 use Rattle.fk_spec.specs.Leader as leader
 use Rattle.fk_spec.specs.Leader.{Stage}
 use Rattle.fk_spec.specs.Settling.{done_of}
@@ -32,12 +29,8 @@ use Rattle.fk_agree.proofs.Committing.{commit_is_written}
 use Rattle.fk_agree.proofs.Finishing.{drop_is_written, finish_is_written}
 use Rattle.fk_agree.proofs.Held.{left_table, settled_so, settled_table}
 use Rattle.fk_agree_lead.specs.Leaders.{IsLeader}
+use Rattle.fk_agree_lead.proofs.Making.{may}
 use Rattle.fk_agree_lead.proofs.Pushed.{HasPush, its_push}
-
--- what holds of both holds of the one that is chosen
-pub either : (P : Op → Type 0) (b : Bool) (x y : Op) → P x → P y → P (if b then x else y)
-either P true x y i j = i
-either P false x y i j = j
 
 -- A commit. ---------------------------------------------------------------------------------------------
 
@@ -78,13 +71,13 @@ done_leaves p n faults e h m l x g = ap (λ c. transacted (finish_conds m.tx) (d
 
 pub table_case : (p : Plan) (n faults : ℕ) (e : Entry) (h : List Entry) (m : Meaning) (q : post.Meaning) (w : watches.Watches) (u : user.Meaning) (s : Swept) (x : Stage) → IsHistory p (e ∷ h) → IsLeader p n h m → e.op ≡ calm_op (table_after p h faults) q w u s m x → stage_table (table_after p h faults) m x ≡ table_after p (e ∷ h) faults
 table_case p n faults e h m q w u s leader.Commit l i g = commit_leaves p n faults e h m l i g
-table_case p n faults e h m q w u s leader.Pending l i g = left_table p faults e h (calm_op (table_after p h faults) q w u s m leader.Pending) g (either LeavesRecords (is_pending m.tx (session_of (table_after p h faults) m.message.session).pending) (op.PendingYes m.inv m.tx) (op.PendingNo m.inv m.tx) tt tt)
+table_case p n faults e h m q w u s leader.Pending l i g = left_table p faults e h (calm_op (table_after p h faults) q w u s m leader.Pending) g (may LeavesRecords (table_after p h faults) q w u s m leader.Pending (tt, tt))
 table_case p n faults e h m q w u s leader.Drop l i g = drop_leaves p m.inv m.tx faults e h l g
-table_case p n faults e h m q w u s leader.Sweep l i g = left_table p faults e h (calm_op (table_after p h faults) q w u s m leader.Sweep) g (either LeavesRecords (nat_lt w.swept m.tx) (op.SweepOk m.inv m.tx (length s.fired)) (op.SweepMiss m.inv m.tx w.swept (length s.fired)) tt tt)
-table_case p n faults e h m q w u s (leader.Put path others) l i g = left_table p faults e h (calm_op (table_after p h faults) q w u s m (leader.Put path others)) g (either LeavesRecords (nat_lt (u.records path).stamp m.tx) (op.PutOk m.inv m.tx path) (op.PutMiss m.inv m.tx path (u.records path).stamp) tt tt)
-table_case p n faults e h m q w u s leader.Publish l i g = left_table p faults e h (calm_op (table_after p h faults) q w u s m leader.Publish) g (either LeavesRecords (nat_lt u.mark m.tx) (op.PublishOk m.inv m.tx) (op.PublishMiss m.inv m.tx u.mark) tt tt)
-table_case p n faults e h m q w u s leader.Notify l i g = left_table p faults e h (calm_op (table_after p h faults) q w u s m leader.Notify) g tt
-table_case p n faults e h m q w u s leader.Reply l i g = left_table p faults e h (calm_op (table_after p h faults) q w u s m leader.Reply) g tt
+table_case p n faults e h m q w u s leader.Sweep l i g = left_table p faults e h (calm_op (table_after p h faults) q w u s m leader.Sweep) g (may LeavesRecords (table_after p h faults) q w u s m leader.Sweep ((λ a. tt), (λ a b. tt)))
+table_case p n faults e h m q w u s (leader.Put path others) l i g = left_table p faults e h (calm_op (table_after p h faults) q w u s m (leader.Put path others)) g (may LeavesRecords (table_after p h faults) q w u s m (leader.Put path others) (tt, (λ a. tt)))
+table_case p n faults e h m q w u s leader.Publish l i g = left_table p faults e h (calm_op (table_after p h faults) q w u s m leader.Publish) g (may LeavesRecords (table_after p h faults) q w u s m leader.Publish (tt, (λ a. tt)))
+table_case p n faults e h m q w u s leader.Notify l i g = left_table p faults e h (calm_op (table_after p h faults) q w u s m leader.Notify) g (may LeavesRecords (table_after p h faults) q w u s m leader.Notify (λ a. tt))
+table_case p n faults e h m q w u s leader.Reply l i g = left_table p faults e h (calm_op (table_after p h faults) q w u s m leader.Reply) g (may LeavesRecords (table_after p h faults) q w u s m leader.Reply tt)
 table_case p n faults e h m q w u s leader.Done l i g = done_leaves p m.inv faults e h m l (its_push p n h m l.0 i) g
-table_case p n faults e h m q w u s leader.Ack l i g = left_table p faults e h (calm_op (table_after p h faults) q w u s m leader.Ack) g (either LeavesRecords (is_number m.tx (head_number (q.lanes lane.Leader))) (op.AckOk m.inv) (op.AckGone m.inv) tt tt)
-table_case p n faults e h m q w u s leader.Ended l i g = left_table p faults e h op.Idle g tt
+table_case p n faults e h m q w u s leader.Ack l i g = left_table p faults e h (calm_op (table_after p h faults) q w u s m leader.Ack) g (may LeavesRecords (table_after p h faults) q w u s m leader.Ack (tt, tt))
+table_case p n faults e h m q w u s leader.Ended l i g = left_table p faults e h (calm_op (table_after p h faults) q w u s m leader.Ended) g (may LeavesRecords (table_after p h faults) q w u s m leader.Ended tt)

@@ -1,80 +1,46 @@
--- What the services hold after a leader's operation, or after its fault, and the line of its transaction.
-use Rattle.std.specs.Prelude.{◌==◌, ◌+◌, nat_lt, if◌then◌else◌, length, option_map}
-use Rattle.std.proofs.Common.{◌≡◌, ℕ, Bool, true, false, cond, List, [], ◌∷◌, refl, sym, ◌∙◌, ap, subst, Option, Some, None}
+-- What the services hold after a leader's operation, or after its fault, and the lines that it prints.
+use Rattle.std.specs.Prelude.{nat_lt, if◌then◌else◌, length}
+use Rattle.std.proofs.Common.{◌≡◌, ℕ, Bool, true, false, cond, List, [], ◌∷◌, refl, sym, ◌∙◌, ap, subst}
 use Rattle.fk_base.specs.Faults.{one_more}
 use Rattle.fk_base.specs.Path.{PathNames, same_path}
 use Rattle.fk_tree.specs.Edit.{effects}
-use Rattle.fk_tree.specs.Sorted.{in_path_order}
 use Rattle.fk_tree.specs.Touch.{edits_at}
 use Rattle.fk_tree.specs.declared.edit.Edit.{Edit}
 use Rattle.fk_print.specs.declared.entry.Entry.{Entry}
 use Rattle.fk_print.specs.declared.line.Line.TheVariants as line
 use Rattle.fk_print.specs.declared.op.Op.{Op}
 use Rattle.fk_print.specs.declared.op.Op.TheVariants as op
-use Rattle.fk_queue.specs.Letters.{head_number}
 use Rattle.fk_queue.specs.Meaning as post
-use Rattle.fk_queue.specs.declared.lane.Lane.TheVariants as lane
-use Rattle.fk_settle.specs.Held.{first_passed}
-use Rattle.fk_store.specs.Conds.{session_of}
 use Rattle.fk_store.specs.Meaning as table
 use Rattle.fk_user.specs.Meaning as user
 use Rattle.fk_user.specs.Meaning.{published, with_put}
 use Rattle.fk_user.specs.Own.{own_edits}
 use Rattle.fk_watch.specs.Meaning as watches
 use Rattle.fk_lead.specs.Meaning.{Meaning, Swept, applied_of, edits_of}
-use Rattle.fk_lead.specs.Operation.{calm_op, is_pending, passed_as}
+use Rattle.fk_lead.specs.Operation.{calm_op}
 use Rattle.fk_lead.specs.Services.{post_after_step, stage_post, stage_table, stage_user, stage_watches, table_after_step, user_after_step, watches_after_step}
 use Rattle.fk_stand.specs.Posts.{post_after}
 use Rattle.fk_stand.specs.Stores.{store_after, watches_after}
 use Rattle.fk_stand.specs.Tables.{table_after}
 use Rattle.fk_spec.specs.Plan.{Plan}
-use Rattle.fk_spec.specs.Locks.{Passed}
 use Rattle.fk_spec.specs.Settling.{mark_of}
 use Rattle.fk_spec.specs.Stored.{stamp_of}
 use Rattle.fk_spec.specs.Watches.{epoch_after, published_epoch, swept_by}
-use Rattle.fk_spec.specs.Follower.{commit_locked, is_number}
 use Rattle.fk_spec.specs.Leader as leader
 use Rattle.fk_spec.specs.Leader.{Stage}
 use Rattle.fk_spec.specs.Function.{Leading, leader_word, place_of}
-use Rattle.fk_spec.specs.Next.{IsHistory, printed_of, tx_lines}
+use Rattle.fk_spec.specs.Next.{IsHistory, next_lines, printed_of, tx_lines}
 use Rattle.fk_law.proofs.Leading.{leader_stands_where_it_may}
 use Rattle.fk_agree.specs.Stored.{LeavesStore}
 use Rattle.fk_agree.specs.Watched.{LeavesWatches}
 use Rattle.fk_agree.proofs.Putting.{publication_is_written, put_is_written, store_stays}
 use Rattle.fk_agree.proofs.Serving.{fault_leaves, post_stands, services_stay, store_stands, table_stands, watches_stand}
 use Rattle.fk_agree.proofs.Watching.{watches_stay}
-use Rattle.fk_agree_lead.specs.Leaders.{IsLeader, LeaderFaultIsWritten, LeaderIsWritten, LeaderPrintsItsLine}
-use Rattle.fk_agree_lead.proofs.Making.{calm_leader, leader_faults, sweep_leaves}
+use Rattle.fk_agree_lead.specs.Leaders.{IsLeader, LeaderFaultIsWritten, LeaderIsWritten, LeaderPrintsItsLines, printed_at}
+use Rattle.fk_agree_lead.proofs.Making.{May, calm_leader, leader_faults, may, sweep_leaves}
 use Rattle.fk_agree_lead.proofs.Posted.{post_case}
 use Rattle.fk_agree_lead.proofs.Pushed.{HasCommit, its_commit}
-use Rattle.fk_agree_lead.proofs.Tabled.{either, table_case}
-
--- What its operations leave. ----------------------------------------------------------------------------
-
--- an operation that changes neither the user storage nor the table of watches
-abbrev Spares : Op → Type 0
-Spares o = LeavesStore o × LeavesWatches o
-
-commit_spares : (n t : ℕ) (o : Option Passed) → Spares (commit_locked n t o)
-commit_spares n t None = (tt, tt)
-commit_spares n t (Some x) = (tt, tt)
-
-commits : (t : table.Meaning) (q : post.Meaning) (w : watches.Watches) (u : user.Meaning) (s : Swept) (m : Meaning) → Spares (calm_op t q w u s m leader.Commit)
-commits t q w u s m =
-    let passed = option_map passed_as (first_passed m.message.inv t (in_path_order m.message.paths)) in
-    either Spares ((session_of t m.message.session).settled + 1 == m.message.k) (commit_locked m.inv m.tx passed) (op.CommitSettled m.inv m.tx (session_of t m.message.session).settled) (commit_spares m.inv m.tx passed) (tt, tt)
-
-asks : (t : table.Meaning) (q : post.Meaning) (w : watches.Watches) (u : user.Meaning) (s : Swept) (m : Meaning) → Spares (calm_op t q w u s m leader.Pending)
-asks t q w u s m = either Spares (is_pending m.tx (session_of t m.message.session).pending) (op.PendingYes m.inv m.tx) (op.PendingNo m.inv m.tx) (tt, tt) (tt, tt)
-
-drops : (t : table.Meaning) (q : post.Meaning) (w : watches.Watches) (u : user.Meaning) (s : Swept) (m : Meaning) → Spares (calm_op t q w u s m leader.Drop)
-drops t q w u s m = either Spares (nat_lt t.done m.tx) (op.DropOk m.inv m.tx) (op.DropMiss m.inv m.tx t.done) (tt, tt) (tt, tt)
-
-finishes : (t : table.Meaning) (q : post.Meaning) (w : watches.Watches) (u : user.Meaning) (s : Swept) (m : Meaning) → Spares (calm_op t q w u s m leader.Done)
-finishes t q w u s m = either Spares (nat_lt t.done m.tx) (op.DoneOk m.inv m.tx) (op.DoneMiss m.inv m.tx t.done) (tt, tt) (tt, tt)
-
-acks : (t : table.Meaning) (q : post.Meaning) (w : watches.Watches) (u : user.Meaning) (s : Swept) (m : Meaning) → Spares (calm_op t q w u s m leader.Ack)
-acks t q w u s m = either Spares (is_number m.tx (head_number (q.lanes lane.Leader))) (op.AckOk m.inv) (op.AckGone m.inv) (tt, tt) (tt, tt)
+use Rattle.fk_agree_lead.proofs.Tabled.{table_case}
 
 -- The user storage. -------------------------------------------------------------------------------------
 
@@ -106,17 +72,17 @@ publish_leaves p n faults e h m l i g = by_less (nat_lt (mark_of h) m.tx) g
     by_less false f = store_left p faults e h (op.PublishMiss m.inv m.tx (mark_of h)) l f tt
 
 store_case : (p : Plan) (n faults : ℕ) (e : Entry) (h : List Entry) (m : Meaning) (t : table.Meaning) (q : post.Meaning) (w : watches.Watches) (s : Swept) (x : Stage) → IsHistory p (e ∷ h) → IsLeader p n h m → place_of p n h ≡ Leading m.tx x → e.op ≡ calm_op t q w (store_after p h faults) s m x → stage_user (store_after p h faults) m x ≡ store_after p (e ∷ h) faults
-store_case p n faults e h m t q w s leader.Commit l i b g = store_left p faults e h (calm_op t q w (store_after p h faults) s m leader.Commit) l g (commits t q w (store_after p h faults) s m).0
-store_case p n faults e h m t q w s leader.Pending l i b g = store_left p faults e h (calm_op t q w (store_after p h faults) s m leader.Pending) l g (asks t q w (store_after p h faults) s m).0
-store_case p n faults e h m t q w s leader.Drop l i b g = store_left p faults e h (calm_op t q w (store_after p h faults) s m leader.Drop) l g (drops t q w (store_after p h faults) s m).0
-store_case p n faults e h m t q w s leader.Sweep l i b g = store_left p faults e h (calm_op t q w (store_after p h faults) s m leader.Sweep) l g (either LeavesStore (nat_lt w.swept m.tx) (op.SweepOk m.inv m.tx (length s.fired)) (op.SweepMiss m.inv m.tx w.swept (length s.fired)) tt tt)
+store_case p n faults e h m t q w s leader.Commit l i b g = store_left p faults e h (calm_op t q w (store_after p h faults) s m leader.Commit) l g (may LeavesStore t q w (store_after p h faults) s m leader.Commit (tt, (λ a. tt), (λ path a b. tt)))
+store_case p n faults e h m t q w s leader.Pending l i b g = store_left p faults e h (calm_op t q w (store_after p h faults) s m leader.Pending) l g (may LeavesStore t q w (store_after p h faults) s m leader.Pending (tt, tt))
+store_case p n faults e h m t q w s leader.Drop l i b g = store_left p faults e h (calm_op t q w (store_after p h faults) s m leader.Drop) l g (may LeavesStore t q w (store_after p h faults) s m leader.Drop (tt, (λ a. tt)))
+store_case p n faults e h m t q w s leader.Sweep l i b g = store_left p faults e h (calm_op t q w (store_after p h faults) s m leader.Sweep) l g (may LeavesStore t q w (store_after p h faults) s m leader.Sweep ((λ a. tt), (λ a b. tt)))
 store_case p n faults e h m t q w s (leader.Put path others) l i b g = put_leaves p faults e h m path l (its_commit p n h m l.0 i (leader_stands_where_it_may p n m.tx (leader.Put path others) h l.0 b).0) g
 store_case p n faults e h m t q w s leader.Publish l i b g = publish_leaves p n faults e h m l i g
-store_case p n faults e h m t q w s leader.Notify l i b g = store_left p faults e h (calm_op t q w (store_after p h faults) s m leader.Notify) l g tt
-store_case p n faults e h m t q w s leader.Reply l i b g = store_left p faults e h (calm_op t q w (store_after p h faults) s m leader.Reply) l g tt
-store_case p n faults e h m t q w s leader.Done l i b g = store_left p faults e h (calm_op t q w (store_after p h faults) s m leader.Done) l g (finishes t q w (store_after p h faults) s m).0
-store_case p n faults e h m t q w s leader.Ack l i b g = store_left p faults e h (calm_op t q w (store_after p h faults) s m leader.Ack) l g (acks t q w (store_after p h faults) s m).0
-store_case p n faults e h m t q w s leader.Ended l i b g = store_left p faults e h op.Idle l g tt
+store_case p n faults e h m t q w s leader.Notify l i b g = store_left p faults e h (calm_op t q w (store_after p h faults) s m leader.Notify) l g (may LeavesStore t q w (store_after p h faults) s m leader.Notify (λ a. tt))
+store_case p n faults e h m t q w s leader.Reply l i b g = store_left p faults e h (calm_op t q w (store_after p h faults) s m leader.Reply) l g (may LeavesStore t q w (store_after p h faults) s m leader.Reply tt)
+store_case p n faults e h m t q w s leader.Done l i b g = store_left p faults e h (calm_op t q w (store_after p h faults) s m leader.Done) l g (may LeavesStore t q w (store_after p h faults) s m leader.Done (tt, (λ a. tt)))
+store_case p n faults e h m t q w s leader.Ack l i b g = store_left p faults e h (calm_op t q w (store_after p h faults) s m leader.Ack) l g (may LeavesStore t q w (store_after p h faults) s m leader.Ack (tt, tt))
+store_case p n faults e h m t q w s leader.Ended l i b g = store_left p faults e h (calm_op t q w (store_after p h faults) s m leader.Ended) l g (may LeavesStore t q w (store_after p h faults) s m leader.Ended tt)
 
 -- The table of watches. ---------------------------------------------------------------------------------
 
@@ -124,17 +90,17 @@ watches_left : (p : Plan) (faults : ℕ) (e : Entry) (h : List Entry) (o : Op) �
 watches_left p faults e h o g k = sym (watches_stay p faults e h (subst LeavesWatches (sym g) k))
 
 watches_case : (p : Plan) (n faults : ℕ) (e : Entry) (h : List Entry) (m : Meaning) (t : table.Meaning) (q : post.Meaning) (u : user.Meaning) (s : Swept) (x : Stage) → IsHistory p (e ∷ h) → IsLeader p n h m → place_of p n h ≡ Leading m.tx x → e.op ≡ calm_op t q (watches_after p h faults) u s m x → stage_watches (watches_after p h faults) m x ≡ watches_after p (e ∷ h) faults
-watches_case p n faults e h m t q u s leader.Commit l i b g = watches_left p faults e h (calm_op t q (watches_after p h faults) u s m leader.Commit) g (commits t q (watches_after p h faults) u s m).1
-watches_case p n faults e h m t q u s leader.Pending l i b g = watches_left p faults e h (calm_op t q (watches_after p h faults) u s m leader.Pending) g (asks t q (watches_after p h faults) u s m).1
-watches_case p n faults e h m t q u s leader.Drop l i b g = watches_left p faults e h (calm_op t q (watches_after p h faults) u s m leader.Drop) g (drops t q (watches_after p h faults) u s m).1
+watches_case p n faults e h m t q u s leader.Commit l i b g = watches_left p faults e h (calm_op t q (watches_after p h faults) u s m leader.Commit) g (may LeavesWatches t q (watches_after p h faults) u s m leader.Commit (tt, (λ a. tt), (λ path a b. tt)))
+watches_case p n faults e h m t q u s leader.Pending l i b g = watches_left p faults e h (calm_op t q (watches_after p h faults) u s m leader.Pending) g (may LeavesWatches t q (watches_after p h faults) u s m leader.Pending (tt, tt))
+watches_case p n faults e h m t q u s leader.Drop l i b g = watches_left p faults e h (calm_op t q (watches_after p h faults) u s m leader.Drop) g (may LeavesWatches t q (watches_after p h faults) u s m leader.Drop (tt, (λ a. tt)))
 watches_case p n faults e h m t q u s leader.Sweep l i b g = sweep_leaves p m.inv (length s.fired) (length s.fired) faults e h m l (its_commit p n h m l.0 i (leader_stands_where_it_may p n m.tx leader.Sweep h l.0 b)) g
-watches_case p n faults e h m t q u s (leader.Put path others) l i b g = watches_left p faults e h (calm_op t q (watches_after p h faults) u s m (leader.Put path others)) g (either LeavesWatches (nat_lt (u.records path).stamp m.tx) (op.PutOk m.inv m.tx path) (op.PutMiss m.inv m.tx path (u.records path).stamp) tt tt)
-watches_case p n faults e h m t q u s leader.Publish l i b g = watches_left p faults e h (calm_op t q (watches_after p h faults) u s m leader.Publish) g (either LeavesWatches (nat_lt u.mark m.tx) (op.PublishOk m.inv m.tx) (op.PublishMiss m.inv m.tx u.mark) tt tt)
-watches_case p n faults e h m t q u s leader.Notify l i b g = watches_left p faults e h (calm_op t q (watches_after p h faults) u s m leader.Notify) g tt
-watches_case p n faults e h m t q u s leader.Reply l i b g = watches_left p faults e h (calm_op t q (watches_after p h faults) u s m leader.Reply) g tt
-watches_case p n faults e h m t q u s leader.Done l i b g = watches_left p faults e h (calm_op t q (watches_after p h faults) u s m leader.Done) g (finishes t q (watches_after p h faults) u s m).1
-watches_case p n faults e h m t q u s leader.Ack l i b g = watches_left p faults e h (calm_op t q (watches_after p h faults) u s m leader.Ack) g (acks t q (watches_after p h faults) u s m).1
-watches_case p n faults e h m t q u s leader.Ended l i b g = watches_left p faults e h op.Idle g tt
+watches_case p n faults e h m t q u s (leader.Put path others) l i b g = watches_left p faults e h (calm_op t q (watches_after p h faults) u s m (leader.Put path others)) g (may LeavesWatches t q (watches_after p h faults) u s m (leader.Put path others) (tt, (λ a. tt)))
+watches_case p n faults e h m t q u s leader.Publish l i b g = watches_left p faults e h (calm_op t q (watches_after p h faults) u s m leader.Publish) g (may LeavesWatches t q (watches_after p h faults) u s m leader.Publish (tt, (λ a. tt)))
+watches_case p n faults e h m t q u s leader.Notify l i b g = watches_left p faults e h (calm_op t q (watches_after p h faults) u s m leader.Notify) g (may LeavesWatches t q (watches_after p h faults) u s m leader.Notify (λ a. tt))
+watches_case p n faults e h m t q u s leader.Reply l i b g = watches_left p faults e h (calm_op t q (watches_after p h faults) u s m leader.Reply) g (may LeavesWatches t q (watches_after p h faults) u s m leader.Reply tt)
+watches_case p n faults e h m t q u s leader.Done l i b g = watches_left p faults e h (calm_op t q (watches_after p h faults) u s m leader.Done) g (may LeavesWatches t q (watches_after p h faults) u s m leader.Done (tt, (λ a. tt)))
+watches_case p n faults e h m t q u s leader.Ack l i b g = watches_left p faults e h (calm_op t q (watches_after p h faults) u s m leader.Ack) g (may LeavesWatches t q (watches_after p h faults) u s m leader.Ack (tt, tt))
+watches_case p n faults e h m t q u s leader.Ended l i b g = watches_left p faults e h (calm_op t q (watches_after p h faults) u s m leader.Ended) g (may LeavesWatches t q (watches_after p h faults) u s m leader.Ended tt)
 
 -- All of them. ------------------------------------------------------------------------------------------
 
@@ -266,9 +232,26 @@ leader_fault_is_written p n e h m t q u w s l a i g =
       watches = watches_stand p h (watches_faults w.faults m.stage) (watches.calmed (watches_after_step (watches.armed w) m)) (ap (λ z. watches.calmed (stage_watches (watches.armed z) m m.stage)) a.watches ∙ failed_watches p h m w.faults m.stage);
     })
 
--- The line of its transaction. --------------------------------------------------------------------------
+-- The lines that it prints. -----------------------------------------------------------------------------
 
-pub leader_prints_its_line : LeaderPrintsItsLine
-leader_prints_its_line p n h m l i b =
-    let c = its_commit p n h m l i (leader_stands_where_it_may p n m.tx leader.Publish h l (i.stands ∙ ap (Leading m.tx) b)).0 in
-    ap tx_lines c.committed ∙ ap (λ a. line.Tx (printed_of a) ∷ []) (sym c.same)
+-- an operation prints what the leader shows
+abbrev Prints : Plan → List Entry → Meaning → Op → Type 0
+Prints p h m o = next_lines p h o ≡ printed_at m o
+
+prints_all : (p : Plan) (n : ℕ) (h : List Entry) (m : Meaning) (x : Stage) → IsHistory p h → IsLeader p n h m → place_of p n h ≡ Leading m.tx x → May (Prints p h m) m x
+prints_all p n h m leader.Commit l i b = (refl, (λ a. refl), (λ path a b. refl))
+prints_all p n h m leader.Pending l i b = (refl, refl)
+prints_all p n h m leader.Drop l i b = (refl, (λ a. refl))
+prints_all p n h m leader.Sweep l i b = ((λ a. refl), (λ a b. refl))
+prints_all p n h m (leader.Put path others) l i b = (refl, (λ a. refl))
+prints_all p n h m leader.Publish l i b =
+    let c = its_commit p n h m l i (leader_stands_where_it_may p n m.tx leader.Publish h l b).0 in
+    (ap tx_lines c.committed ∙ ap (λ a. line.Tx (printed_of a) ∷ []) (sym c.same), (λ a. refl))
+prints_all p n h m leader.Notify l i b = λ a. refl
+prints_all p n h m leader.Reply l i b = refl
+prints_all p n h m leader.Done l i b = (refl, (λ a. refl))
+prints_all p n h m leader.Ack l i b = (refl, refl)
+prints_all p n h m leader.Ended l i b = refl
+
+pub leader_prints_its_lines : LeaderPrintsItsLines
+leader_prints_its_lines p n h m t q u w s l a i = subst (Prints p h m) (sym (calm_leader p h t q u w s m a)) (may (Prints p h m) t q w u s m m.stage (prints_all p n h m m.stage l i i.stands))

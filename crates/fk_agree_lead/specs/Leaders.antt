@@ -1,7 +1,9 @@
 -- Leaders, where the services stand as a history says.
 use Rattle.std.specs.Prelude.{◌≡◌, ◌≢◌, ℕ, ◌<◌, ◌^◌, ◌⊎◌, false, List, [], ◌∷◌, length, map, Some}
 use Rattle.fk_print.specs.declared.entry.Entry.{Entry}
+use Rattle.fk_print.specs.declared.line.Line.{Line}
 use Rattle.fk_print.specs.declared.line.Line.TheVariants as line
+use Rattle.fk_print.specs.declared.op.Op.{Op}
 use Rattle.fk_print.specs.declared.op.Op.TheVariants as op
 use Rattle.fk_queue.specs.Letters.{head_bytes}
 use Rattle.fk_queue.specs.Meaning as post
@@ -23,11 +25,9 @@ use Rattle.fk_stand.specs.Posts.{lane_after}
 use Rattle.fk_stand.specs.Standing.{Standing}
 use Rattle.fk_spec.specs.Plan.{Plan}
 use Rattle.fk_spec.specs.Function.{Leading, actor, fault_op, function_op, place_of}
-use Rattle.fk_spec.specs.Leader as stage
-use Rattle.fk_spec.specs.Stored.{committed_as}
 use Rattle.fk_spec.specs.Watches as rules
 use Rattle.fk_spec.specs.Watches.{swept_by}
-use Rattle.fk_spec.specs.Next.{IsHistory, printed_of, tx_lines}
+use Rattle.fk_spec.specs.Next.{IsHistory, next_lines, printed_of}
 use Rattle.fk_agree.specs.Ends.{HasEnded}
 
 -- what a leader got from its sweep, as it keeps it
@@ -99,6 +99,13 @@ LeaderFaultIsWritten =
     (p : Plan) (n : ℕ) (e : Entry) (h : List Entry) (m : Meaning) (t : table.Meaning) (q : post.Meaning) (u : user.Meaning) (w : watches.Watches) (s : Swept) → IsHistory p (e ∷ h) → Standing p h t q u w → IsLeader p n h m → e.op ≡ step_op (table.armed t) (post.armed q) (watches.armed w) (user.armed u) s m
     → Standing p (e ∷ h) (table.calmed (table_after_step (table.armed t) m)) (post.calmed (post_after_step (post.armed q) m)) (user.calmed (user_after_step (user.armed u) m)) (watches.calmed (watches_after_step (watches.armed w) m))
 
--- What it shows where it publishes is the line of its transaction.
-abbrev pub LeaderPrintsItsLine : Type 0
-LeaderPrintsItsLine = (p : Plan) (n : ℕ) (h : List Entry) (m : Meaning) → IsHistory p h → IsLeader p n h m → m.stage ≡ stage.Publish → tx_lines (committed_as p m.tx h) ≡ line.Tx (printed_of (applied_of m)) ∷ []
+-- what an operation of a leader prints: a publication its push, as the leader shows it
+abbrev pub printed_at : Meaning → Op → List Line
+printed_at m (op.PublishOk function tx) = line.Tx (printed_of (applied_of m)) ∷ []
+printed_at m _ = []
+
+-- Its operation prints the lines that the rules name.
+abbrev pub LeaderPrintsItsLines : Type 0
+LeaderPrintsItsLines =
+    (p : Plan) (n : ℕ) (h : List Entry) (m : Meaning) (t : table.Meaning) (q : post.Meaning) (u : user.Meaning) (w : watches.Watches) (s : Swept) → IsHistory p h → Standing p h t q u w → IsLeader p n h m
+    → next_lines p h (step_op t q w u s m) ≡ printed_at m (step_op t q w u s m)

@@ -1,4 +1,4 @@
-ghost use Rattle.fk_agree_lead.specs.Leaders.{LeaderEndsAtItsFault, LeaderFails, LeaderFaultIsWritten, LeaderGoesOn, LeaderIsFit, LeaderIsWritten, LeaderMakesItsOperation, LeaderPrintsItsLine, LeaderStarts, OthersLeaveLeaders};
+ghost use Rattle.fk_agree_lead.specs.Leaders.{LeaderEndsAtItsFault, LeaderFails, LeaderFaultIsWritten, LeaderGoesOn, LeaderIsFit, LeaderIsWritten, LeaderMakesItsOperation, LeaderPrintsItsLines, LeaderStarts, OthersLeaveLeaders};
 
 /// A law: a leader that starts on the push that its lane's head is read as is the function of the start line.
 pub fn leader_starts()
@@ -30,7 +30,8 @@ pub fn leader_is_written()
     ensures fault { LeaderFaultIsWritten }
 {}
 
-/// A law: what a leader shows where it publishes is the line of its transaction.
-pub fn leader_prints_its_line()
-    ensures { LeaderPrintsItsLine }
+/// A law: a leader's operation prints the lines that the rules name: a publication the transaction's line, as the
+/// leader shows it, and each other operation none.
+pub fn leader_prints_its_lines()
+    ensures { LeaderPrintsItsLines }
 {}

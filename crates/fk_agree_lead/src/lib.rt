@@ -7,5 +7,5 @@ mod leaders;
 
 pub use leaders::{
     leader_goes_on, leader_is_fit, leader_is_written, leader_makes_its_operation,
-    leader_prints_its_line, leader_starts,
+    leader_prints_its_lines, leader_starts,
 };

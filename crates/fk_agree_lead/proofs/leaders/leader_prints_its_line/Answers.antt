@@ -1,5 +1,0 @@
-use Rattle.fk_agree_lead.proofs.Written.{leader_prints_its_line}
-use Rattle.fk_agree_lead.proofs.leaders.leader_prints_its_line.Goals as goal
-
-pub returns : goal.returns
-returns c = leader_prints_its_line
