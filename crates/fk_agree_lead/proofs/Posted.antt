@@ -6,12 +6,10 @@ use Rattle.fk_tree.specs.declared.request.Request.{Request}
 use Rattle.fk_tree.specs.declared.request.Request.TheVariants as request
 use Rattle.fk_print.specs.declared.entry.Entry.{Entry}
 use Rattle.fk_print.specs.declared.op.Op.TheVariants as op
-use Rattle.fk_queue.specs.Answers as answers
-use Rattle.fk_queue.specs.Answers.{after_ack}
+use Rattle.fk_queue.specs.Answers.{ack_of, after_ack}
 use Rattle.fk_queue.specs.Lanes.{same_lane}
 use Rattle.fk_queue.specs.Letters.{head_number}
-use Rattle.fk_queue.specs.Meaning.{popped, pushed}
-use Rattle.fk_queue.specs.declared.answer.Ack.TheVariants as ack
+use Rattle.fk_queue.specs.Meaning.{pushed}
 use Rattle.fk_queue.specs.declared.lane.Lane.{Lane}
 use Rattle.fk_queue.specs.declared.lane.Lane.TheVariants as lane
 use Rattle.fk_store.specs.Meaning as table
@@ -27,7 +25,7 @@ use Rattle.fk_lead.specs.Operation.{calm_op}
 use Rattle.fk_lead.specs.Services as lead
 use Rattle.fk_lead.specs.Services.{note_of, reply_tell, stage_post}
 use Rattle.fk_stand.specs.Messages.{done_tell, push_message_of, tell_of}
-use Rattle.fk_stand.specs.Posts.{lane_after, letter_in, post_after, removes}
+use Rattle.fk_stand.specs.Posts.{lane_after, letter_in, post_after}
 use Rattle.fk_spec.specs.Plan.{Plan, is_client}
 use Rattle.fk_spec.specs.Start.{Leads, request_of, task_of}
 use Rattle.fk_spec.specs.Settling.{Outcome, outcome_of}
@@ -38,8 +36,8 @@ use Rattle.fk_spec.specs.Leader.{Stage}
 use Rattle.fk_spec.specs.Watches.{swept_by}
 use Rattle.fk_spec.specs.Next.{IsHistory}
 use Rattle.fk_agree.specs.Letters.{LeavesLane}
-use Rattle.fk_agree.proofs.Posting.{head_is_popped, letter_is_pushed}
-use Rattle.fk_agree.proofs.Serving.{LeavesPost, other_number, post_left}
+use Rattle.fk_agree.proofs.Posting.{letter_is_pushed}
+use Rattle.fk_agree.proofs.Serving.{LeavesPost, acked_post, other_number, post_left}
 use Rattle.fk_agree_lead.specs.Leaders.{IsLeader}
 use Rattle.fk_agree_lead.proofs.Making.{may}
 use Rattle.fk_agree_lead.proofs.Pushed.{its_push, lead_task}
@@ -114,22 +112,8 @@ acked_elsewhere p n t h lane.Watch a e = record { none = refl; kept = ap notifie
 acked_elsewhere p n t h (lane.Session c) a e = record { none = refl; kept = ap (follows_session c) a }
 acked_elsewhere p n t h (lane.Inbox c) a e = record { none = refl; kept = refl }
 
-acked_post : (p : Plan) (n t faults : ℕ) (e : Entry) (h : List Entry) → e.op ≡ op.AckOk n → task_of n h ≡ Some (Leads t) → popped lane.Leader (post_after p h faults) ≡ post_after p (e ∷ h) faults
-acked_post p n t faults e h g a = head_is_popped p faults lane.Leader e h refl (ap (letter_in p lane.Leader h) g) (ap (removes lane.Leader h) g ∙ ap leads a) (λ q x. subst (LeavesLane p q h) (sym g) (acked_elsewhere p n t h q a x))
-
-same_number : (t : ℕ) (o : Option ℕ) → answers.is_number t o ≡ is_number t o
-same_number t None = refl
-same_number t (Some j) = refl
-
-ack_leaves : (p : Plan) (n t faults : ℕ) (e : Entry) (h : List Entry) → task_of n h ≡ Some (Leads t) → e.op ≡ (if is_number t (head_number (lane_after p lane.Leader h)) then op.AckOk n else op.AckGone n) → after_ack (post_after p h faults) lane.Leader (answers.ack_of (post_after p h faults) lane.Leader t) ≡ post_after p (e ∷ h) faults
-ack_leaves p n t faults e h a g = by_head (is_number t (head_number (lane_after p lane.Leader h))) refl g
-  where
-    answered : (b : Bool) → is_number t (head_number (lane_after p lane.Leader h)) ≡ b → after_ack (post_after p h faults) lane.Leader (answers.ack_of (post_after p h faults) lane.Leader t) ≡ after_ack (post_after p h faults) lane.Leader (if b then ack.Acked else ack.NotHead)
-    answered b f = ap (λ z. after_ack (post_after p h faults) lane.Leader (if z then ack.Acked else ack.NotHead)) (same_number t (head_number (lane_after p lane.Leader h)) ∙ f)
-
-    by_head : (b : Bool) → is_number t (head_number (lane_after p lane.Leader h)) ≡ b → e.op ≡ (if b then op.AckOk n else op.AckGone n) → after_ack (post_after p h faults) lane.Leader (answers.ack_of (post_after p h faults) lane.Leader t) ≡ post_after p (e ∷ h) faults
-    by_head true f b = answered true f ∙ acked_post p n t faults e h b a
-    by_head false f b = answered false f ∙ sym (post_left p faults e h (op.AckGone n) b tt)
+ack_leaves : (p : Plan) (n t faults : ℕ) (e : Entry) (h : List Entry) → task_of n h ≡ Some (Leads t) → e.op ≡ (if is_number t (head_number (lane_after p lane.Leader h)) then op.AckOk n else op.AckGone n) → after_ack (post_after p h faults) lane.Leader (ack_of (post_after p h faults) lane.Leader t) ≡ post_after p (e ∷ h) faults
+ack_leaves p n t faults e h a g = acked_post p lane.Leader n t faults e h refl refl (ap leads a) (λ q x. acked_elsewhere p n t h q a x) g
 
 -- Each operation. ---------------------------------------------------------------------------------------
 
