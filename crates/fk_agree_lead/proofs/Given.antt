@@ -59,13 +59,16 @@ newly_listed p n t k e h l g =
 
 -- What a leader has in hand. ----------------------------------------------------------------------------
 
+-- watch `id` has fired
 abbrev HasFired : Plan → List Entry → ℕ → Type 0
 HasFired p h id = is_some (firing_of p id h) ≡ true
 
+-- what has fired stays so
 fired_more : (a b : Option Firing) → is_some b ≡ true → is_some (or_else a b) ≡ true
 fired_more None b e = e
 fired_more (Some f) b e = refl
 
+-- a sweep gives what has fired
 hand_step : (p : Plan) (n id : ℕ) (g : List Entry) (o : Op) (s : rules.Swept) → (contains id (ids_of s.fired) ≡ true → HasFired p g id) → contains id (ids_of (swept_or (sweep_in n o (fired_watches p g)) s).fired) ≡ true → HasFired p g id
 hand_step p n id g (op.SweepOk m t k) s i = by_test (m == n) (λ b. contains id (ids_of (swept_or (cond b (Some (listed_of t (fired_watches p g))) None) s).fired) ≡ true → HasFired p g id) (λ _ e. listed_has_fired p id g (by_contains id t (fired_watches p g) e)) (λ _ e. i e)
 hand_step p n id g (op.SweepMiss m t w k) s i = by_test (m == n) (λ b. contains id (ids_of (swept_or (cond b (Some (listed_of t (fired_watches p g))) None) s).fired) ≡ true → HasFired p g id) (λ _ e. listed_has_fired p id g (by_contains id t (fired_watches p g) e)) (λ _ e. i e)

@@ -37,6 +37,9 @@ use Rattle.fk_agree_lead.proofs.Given.{listed_of}
 use Rattle.fk_agree_lead.proofs.Making.{May, calm_leader, given_is_listed, leader_faults, may}
 use Rattle.fk_agree_lead.proofs.Pushed.{HasCommit, its_commit}
 
+same_function : (n k : ℕ) → Some n ≡ Some k → n ≡ k
+same_function n k e = cc
+
 -- What comes after each answer. -------------------------------------------------------------------------
 
 -- whether an operation is a sweep
@@ -51,6 +54,7 @@ got s (op.SweepOk n t k) old = s
 got s (op.SweepMiss n t w k) old = s
 got s _ old = old
 
+-- what follows a publication
 notified : (fs : List Firing) → lead.to_notify (map fired_as fs) ≡ to_notify fs
 notified [] = refl
 notified (f ∷ fs) = refl
@@ -61,6 +65,7 @@ IsNotified p h m (op.PublishOk n t) = lead.to_notify m.swept.fired ≡ to_notify
 IsNotified p h m (op.PublishMiss n t mark) = lead.to_notify m.swept.fired ≡ to_notify (swept_by p n h).fired
 IsNotified p h m _ = Unit {0}
 
+-- it stands where the rules say, with what it has got
 after_answer : (p : Plan) (h : List Entry) (m : Meaning) (s : Swept) (o : Op) → (IsSweep o → paths_of m ≡ paths_to_put (committed_as p m.tx h)) → IsNotified p h m o → next_with s o m ≡ record m { stage = next_leader p h m.tx o m.stage; swept = got s o m.swept }
 after_answer p h m s (op.SweepOk n t k) a b = ap (λ ps. record m { stage = to_put ps; swept = s }) (a tt)
 after_answer p h m s (op.SweepMiss n t w k) a b = ap (λ ps. record m { stage = to_put ps; swept = s }) (a tt)
@@ -68,15 +73,10 @@ after_answer p h m s (op.PublishOk n t) a b = ap (λ x. record m { stage = x }) 
 after_answer p h m s (op.PublishMiss n t mark) a b = ap (λ x. record m { stage = x }) b
 after_answer p h m s o a b = refl
 
+-- a leader that publishes has in hand what the rules read
 is_notified : (p : Plan) (n : ℕ) (h : List Entry) (m : Meaning) (o : Op) → m.swept ≡ swept_as (swept_by p n h) → actor o ≡ Some n → IsNotified p h m o
-is_notified p n h m (op.PublishOk k t) e a = ap (λ z. lead.to_notify z.fired) e ∙ (notified (swept_by p n h).fired ∙ ap (λ z. to_notify (swept_by p z h).fired) (some_same n k (sym a)))
-  where
-    some_same : (x y : ℕ) → Some x ≡ Some y → x ≡ y
-    some_same x y f = cc
-is_notified p n h m (op.PublishMiss k t mark) e a = ap (λ z. lead.to_notify z.fired) e ∙ (notified (swept_by p n h).fired ∙ ap (λ z. to_notify (swept_by p z h).fired) (some_same n k (sym a)))
-  where
-    some_same : (x y : ℕ) → Some x ≡ Some y → x ≡ y
-    some_same x y f = cc
+is_notified p n h m (op.PublishOk k t) e a = ap (λ z. lead.to_notify z.fired) e ∙ (notified (swept_by p n h).fired ∙ ap (λ z. to_notify (swept_by p z h).fired) (same_function n k (sym a)))
+is_notified p n h m (op.PublishMiss k t mark) e a = ap (λ z. lead.to_notify z.fired) e ∙ (notified (swept_by p n h).fired ∙ ap (λ z. to_notify (swept_by p z h).fired) (same_function n k (sym a)))
 is_notified p n h m o e a = tt
 
 -- What its sweep gives. ---------------------------------------------------------------------------------
@@ -87,24 +87,20 @@ SweepsIt (op.SweepOk k t fired) n m = (k ≡ n) × (t ≡ m.tx) × (m.stage ≡ 
 SweepsIt (op.SweepMiss k t w fired) n m = (k ≡ n) × (t ≡ m.tx) × (m.stage ≡ leader.Sweep)
 SweepsIt _ n m = Unit {0}
 
+-- where it leads a push, it is that push and that stage
 one_place : (t r : ℕ) (x y : Stage) → Leading t x ≡ Leading r y → (t ≡ r) × (y ≡ x)
 one_place t r x y e = grind arith
 
+-- each sweep of a leader is its own
 sweeps_it : (p : Plan) (n : ℕ) (h : List Entry) (m : Meaning) (o : Op) → IsDue p h o → place_of p n h ≡ Leading m.tx m.stage → actor o ≡ Some n → SweepsIt o n m
 sweeps_it p n h m (op.SweepOk k t fired) d b a =
-    let e : k ≡ n = some_same k n a in
+    let e : k ≡ n = same_function k n a in
     let r = one_place t m.tx leader.Sweep m.stage (sym d.0 ∙ (ap (λ z. place_of p z h) e ∙ b)) in
     (e, r.0, r.1)
-  where
-    some_same : (x y : ℕ) → Some x ≡ Some y → x ≡ y
-    some_same x y f = cc
 sweeps_it p n h m (op.SweepMiss k t w fired) d b a =
-    let e : k ≡ n = some_same k n a in
+    let e : k ≡ n = same_function k n a in
     let r = one_place t m.tx leader.Sweep m.stage (sym d.0 ∙ (ap (λ z. place_of p z h) e ∙ b)) in
     (e, r.0, r.1)
-  where
-    some_same : (x y : ℕ) → Some x ≡ Some y → x ≡ y
-    some_same x y f = cc
 sweeps_it p n h m o d b a = tt
 
 -- it has got what the rules read at the sweep's line, or keeps what it got
@@ -119,6 +115,7 @@ got_at p n e h m s o g x i f = i ∙ ap swept_as (sym (ap (λ o. swept_or (sweep
 
 -- It goes on. -------------------------------------------------------------------------------------------
 
+-- it stands there still, or the history says that it has ended
 after_place : (p : Plan) (n : ℕ) (g : List Entry) (m : Meaning) (x : Stage) (s : Swept) → m.inv ≡ n → push_message_of p m.tx g ≡ Some m.message → s ≡ swept_as (swept_by p n g) → place_of p n g ≡ lead_on m.tx x → IsLeader p n g (record m { stage = x; swept = s }) ⊎ HasEnded p n g (is_end x)
 after_place p n g m leader.Commit s e f w a = inl (record { inv = e; going = refl; stands = a; message = f; swept = w })
 after_place p n g m leader.Pending s e f w a = inl (record { inv = e; going = refl; stands = a; message = f; swept = w })
@@ -136,6 +133,7 @@ after_place p n g m leader.Ended s e f w a = inr (record { is_so = refl; absent 
 abbrev IsOf : ℕ → Op → Type 0
 IsOf n o = actor o ≡ Some n
 
+-- each operation that it may make is its own
 all_of : (m : Meaning) (x : Stage) → is_end x ≡ false → May (IsOf m.inv) m x
 all_of m leader.Commit e = (refl, (λ a. refl), (λ path a b. refl))
 all_of m leader.Pending e = (refl, refl)
@@ -149,6 +147,7 @@ all_of m leader.Done e = (refl, (λ a. refl))
 all_of m leader.Ack e = (refl, refl)
 all_of m leader.Ended e = absurd (false≢true (sym e))
 
+-- a leader that sweeps stands before its sweep
 at_sweep : (n : ℕ) (m : Meaning) (o : Op) → SweepsIt o n m → IsSweep o → m.stage ≡ leader.Sweep
 at_sweep n m (op.SweepOk k t fired) x y = x.2
 at_sweep n m (op.SweepMiss k t w fired) x y = x.2
@@ -161,6 +160,7 @@ record Goes (p : Plan) (n : ℕ) (e : Entry) (h : List Entry) (m : Meaning) (s :
   pub paths : IsSweep e.op → paths_of m ≡ paths_to_put (committed_as p m.tx h)
   pub got : IsSweep e.op → s ≡ swept_as (listed_of m.tx (fired_watches p (e ∷ h)))
 
+-- what is known of each of its operations
 goes : (p : Plan) (n : ℕ) (e : Entry) (h : List Entry) (m : Meaning) (t : table.Meaning) (q : post.Meaning) (u : user.Meaning) (w : watches.Watches) (s : Swept) → IsHistory p (e ∷ h) → Standing p h t q u w → IsLeader p n h m → IsGiven w m s → e.op ≡ step_op t q w u s m → Goes p n e h m s
 goes p n e h m t q u w s l a i y g = record {
   its = its;

@@ -64,9 +64,11 @@ May P m leader.Done = P (op.DoneOk m.inv m.tx) × ((a : ℕ) → P (op.DoneMiss 
 May P m leader.Ack = P (op.AckOk m.inv) × P (op.AckGone m.inv)
 May P m leader.Ended = P op.Idle
 
+-- what holds of both holds of the one that is chosen
 either : (P : Op → Type 0) (b : Bool) (x y : Op) → P x → P y → P (if b then x else y)
 either P b x y i j = cond_both b x y P (λ _. i) (λ _. j)
 
+-- what holds of a commit and of each lock that passed on holds of what the locks say
 locked : (P : Op → Type 0) (n t : ℕ) (o : Option Passed) → P (op.CommitOk n t) → ((path : PathNames) (a b : ℕ) → P (op.CommitLock n t path a b)) → P (commit_locked n t o)
 locked P n t None i j = i
 locked P n t (Some x) i j = j x.path x.holder x.moment
@@ -90,6 +92,7 @@ may P t q w u s m leader.Ended i = i
 
 -- Where the services are calm, and where they fail. -----------------------------------------------------
 
+-- no service fails
 calm_stage : (t : table.Meaning) (q : post.Meaning) (w : watches.Watches) (u : user.Meaning) (s : Swept) (m : Meaning) (x : Stage) → t.armed ≡ false → q.armed ≡ false → w.armed ≡ false → u.armed ≡ false → or_fault (is_armed t q w u x) m.inv (leader_word x) (calm_op t q w u s m x) ≡ calm_op t q w u s m x
 calm_stage t q w u s m leader.Commit a b c d = rw a refl
 calm_stage t q w u s m leader.Pending a b c d = rw a refl
@@ -103,9 +106,11 @@ calm_stage t q w u s m leader.Done a b c d = rw a refl
 calm_stage t q w u s m leader.Ack a b c d = rw b refl
 calm_stage t q w u s m leader.Ended a b c d = refl
 
+-- where the services stand, its operation is the one that they answer
 pub calm_leader : (p : Plan) (h : List Entry) (t : table.Meaning) (q : post.Meaning) (u : user.Meaning) (w : watches.Watches) (s : Swept) (m : Meaning) → Standing p h t q u w → step_op t q w u s m ≡ calm_op t q w u s m m.stage
 calm_leader p h t q u w s m a = calm_stage t q w u s m m.stage (ap (λ z. z.armed) a.table) (ap (λ z. z.armed) a.post) (ap (λ z. z.armed) a.watches) (ap (λ z. z.armed) a.user)
 
+-- each service fails
 fail_stage : (t : table.Meaning) (q : post.Meaning) (w : watches.Watches) (u : user.Meaning) (s : Swept) (m : Meaning) (x : Stage) → is_end x ≡ false → or_fault (is_armed (table.armed t) (post.armed q) (watches.armed w) (user.armed u) x) m.inv (leader_word x) (calm_op (table.armed t) (post.armed q) (watches.armed w) (user.armed u) s m x) ≡ op.Fault m.inv (leader_word x)
 fail_stage t q w u s m leader.Commit e = refl
 fail_stage t q w u s m leader.Pending e = refl
@@ -119,6 +124,7 @@ fail_stage t q w u s m leader.Done e = refl
 fail_stage t q w u s m leader.Ack e = refl
 fail_stage t q w u s m leader.Ended e = absurd (false≢true (sym e))
 
+-- where they fail, it is a fault
 pub leader_faults : (p : Plan) (n : ℕ) (h : List Entry) (m : Meaning) (t : table.Meaning) (q : post.Meaning) (u : user.Meaning) (w : watches.Watches) (s : Swept) → IsLeader p n h m → step_op (table.armed t) (post.armed q) (watches.armed w) (user.armed u) s m ≡ op.Fault m.inv (leader_word m.stage)
 leader_faults p n h m t q u w s i = fail_stage t q w u s m m.stage i.going
 
@@ -128,19 +134,21 @@ leader_fails p n h m t q u w s i = leader_faults p n h m t q u w s i ∙ (ap (λ
 -- A commit. ---------------------------------------------------------------------------------------------
 
 -- the operation of a commit, by what it finds
-abbrev pub committing : ℕ → ℕ → ℕ → ℕ → Option Passed → Op
+abbrev committing : ℕ → ℕ → ℕ → ℕ → Option Passed → Op
 committing n t settled k passed = if settled + 1 == k then commit_locked n t passed else op.CommitSettled n t settled
 
--- what it finds of its session and of its locks
-pub settled_found : (p : Plan) (h : List Entry) (m : Meaning) (t : table.Meaning) → t ≡ table_after p h t.faults → (x : HasPush p h m) → (session_of t m.message.session).settled ≡ settled_of x.session h
+-- what a commit finds of its session
+settled_found : (p : Plan) (h : List Entry) (m : Meaning) (t : table.Meaning) → t ≡ table_after p h t.faults → (x : HasPush p h m) → (session_of t m.message.session).settled ≡ settled_of x.session h
 settled_found p h m t s x = ap (λ z. (session_of t z).settled) x.tells.session ∙ ap (λ z. z.settled) (session_is p x.session h t s x.client)
 
-pub passed_found : (p : Plan) (h : List Entry) (m : Meaning) (t : table.Meaning) → t ≡ table_after p h t.faults → (x : HasPush p h m) → option_map passed_as (settle.first_passed m.message.inv t (in_path_order m.message.paths)) ≡ first_passed x.holder h (in_path_order (granted x.holder h))
+-- and of its locks
+passed_found : (p : Plan) (h : List Entry) (m : Meaning) (t : table.Meaning) → t ≡ table_after p h t.faults → (x : HasPush p h m) → option_map passed_as (settle.first_passed m.message.inv t (in_path_order m.message.paths)) ≡ first_passed x.holder h (in_path_order (granted x.holder h))
 passed_found p h m t s x =
     ap (λ z. option_map passed_as (settle.first_passed m.message.inv z (in_path_order m.message.paths))) s
     ∙ (passed_same p m.message.inv t.faults h (in_path_order m.message.paths) ∙ (λ i. first_passed ((x.tells.inv) i) h (in_path_order ((x.tells.paths) i))))
 
-pub commit_found : (p : Plan) (h : List Entry) (m : Meaning) (t : table.Meaning) → t ≡ table_after p h t.faults → (x : HasPush p h m) → lead.commit_op t m.inv m.tx m.message ≡ committing m.inv m.tx (settled_of x.session h) x.k (first_passed x.holder h (in_path_order (granted x.holder h)))
+-- so its operation is found the same
+commit_found : (p : Plan) (h : List Entry) (m : Meaning) (t : table.Meaning) → t ≡ table_after p h t.faults → (x : HasPush p h m) → lead.commit_op t m.inv m.tx m.message ≡ committing m.inv m.tx (settled_of x.session h) x.k (first_passed x.holder h (in_path_order (granted x.holder h)))
 commit_found p h m t s x = λ i. committing m.inv m.tx ((settled_found p h m t s x) i) ((x.tells.number) i) ((passed_found p h m t s x) i)
 
 -- A sweep. ----------------------------------------------------------------------------------------------
@@ -165,10 +173,12 @@ sweep_leaves p n k j faults e h m l c g = by_less (nat_lt (swept_of h) m.tx) g
 pub given_is_listed : (p : Plan) (n k j : ℕ) (e : Entry) (h : List Entry) (m : Meaning) (w : watches.Watches) (s : Swept) → IsHistory p (e ∷ h) → w ≡ watches_after p h w.faults → HasCommit p h m → IsSweepOf m.tx (touches_of m) w s → e.op ≡ sweeping n m.tx h k j → s ≡ swept_as (listed_of m.tx (fired_watches p (e ∷ h)))
 given_is_listed p n k j e h m w s l a c y g = swept_is_listed p m.tx w.faults (e ∷ h) s l (subst (λ z. AreSwept m.tx z.fired s) (ap (swept_at m.tx (touches_of m)) a ∙ sweep_leaves p n k j w.faults e h m l c g) (y (ap (λ z. z.armed) a)))
 
+-- as many are listed as the rules list
 counted : (fs : List Firing) → length (map fired_as fs) ≡ length fs
 counted [] = refl
 counted (f ∷ fs) = ap suc (counted fs)
 
+-- a sweep finds as many as the rules say
 sweep_found : (p : Plan) (n : ℕ) (h : List Entry) (m : Meaning) (w : watches.Watches) (s : Swept) → IsHistory p h → w ≡ watches_after p h w.faults → HasCommit p h m → IsSweepOf m.tx (touches_of m) w s → place_of p n h ≡ Leading m.tx leader.Sweep → lead.sweep_op w n m.tx s.fired ≡ sweep_op p h n m.tx
 sweep_found p n h m w s l a c y b = ap (λ z. lead.sweep_op z n m.tx s.fired) a ∙ by_less (nat_lt (swept_of h) m.tx) named
   where
@@ -196,6 +206,7 @@ sweep_found p n h m w s l a c y b = ap (λ z. lead.sweep_op z n m.tx s.fired) a 
 
 -- Each operation. ---------------------------------------------------------------------------------------
 
+-- each operation is the one that the rules name
 rule_stage : (p : Plan) (n : ℕ) (h : List Entry) (m : Meaning) (t : table.Meaning) (q : post.Meaning) (u : user.Meaning) (w : watches.Watches) (s : Swept) (x : Stage) → IsHistory p h → Standing p h t q u w → IsLeader p n h m → given_at w m s x → place_of p n h ≡ Leading m.tx x → calm_op t q w u s m x ≡ leader_op p h n m.tx x
 rule_stage p n h m t q u w s leader.Commit l a i g b =
     let x = its_push p n h m l i in

@@ -37,6 +37,7 @@ fired_limited g l (f ∷ fs) b c a = (let x = a f.watch.id (ap (λ z. z || conta
     later true y e = refl
     later false y e = e
 
+-- its numbers are within the limits of messages
 limited : (p : Plan) (n : ℕ) (h : List Entry) (m : Meaning) → IsHistory p h → length h < 2 ^ 62 → IsLeader p n h m → HasPush p h m → IsLimited m
 limited p n h m l b i x = record {
   tx = (let a = (leader_at_or_below_the_head p n m.tx h l (lead_task p n h m l i)).2 in let c = pushes_are_bounded h in is_limited m.tx (length h) b (omega (arith, a, c)));
@@ -44,6 +45,7 @@ limited p n h m l b i x = record {
   fired = subst (λ z. AreLimitedFired z.fired) (sym i.swept) (fired_limited (given_of h) (length h) (swept_by p n h).fired b (given_are_bounded p h l) (λ id e. in_hand_was_given p n id h l e));
 }
 
+-- its push's session is there, and the lanes can be given one more
 has_session : (p : Plan) (h : List Entry) (t : table.Meaning) (q : post.Meaning) (u : user.Meaning) (w : watches.Watches) (m : Meaning) → length h < 2 ^ 62 → Standing p h t q u w → (x : HasPush p h m) → HasSession t q x.session
 has_session p h t q u w m b s x = record {
   table = ap is_some (session_there p x.session h t s.table x.client);
@@ -52,6 +54,7 @@ has_session p h t q u w m b s x = record {
   inbox = subst (λ z. z.given < 2 ^ 63 - 1) (sym (lane_is p h q (lane.Inbox x.session) s.post x.client)) (lane_low p (lane.Inbox x.session) h b);
 }
 
+-- so it is where the services fail
 armed_fit : (t : table.Meaning) (q : post.Meaning) (m : Meaning) → IsFit t q m → IsFit (table.armed t) (post.armed q) m
 armed_fit t q m f = record {
   going = f.going;

@@ -24,6 +24,7 @@ use Rattle.fk_law.proofs.Settled.{session_of_its_push}
 
 -- Lists. ------------------------------------------------------------------------------------------------
 
+-- a number that is put at the end
 listed_last : (t s : ℕ) (ts : List ℕ) → is_pending t (ts ++ s ∷ []) ≡ (is_pending t ts || (s == t))
 listed_last t s [] = one (s == t)
   where
@@ -36,6 +37,7 @@ listed_last t s (x ∷ ts) = one (x == t) (listed_last t s ts)
     one true i = refl
     one false i = i
 
+-- a number that is taken out
 listed_without : (t s : ℕ) (ts : List ℕ) → is_pending t (without s ts) ≡ (is_pending t ts && not (s == t))
 listed_without t s [] = refl
 listed_without t s (x ∷ ts) = one (x == s) (x == t) (s == t) refl refl refl (listed_without t s ts)
@@ -58,6 +60,7 @@ finished_step : (p : Plan) (t : ℕ) (h : List Entry) (o : Op) → IsHistory p h
 finished_step p t h (op.DoneOk n s) l d i e = let c = (leader_stands_where_it_may p n s leader.Done h l d.0).0 in grind (arith, nat_tests)
 finished_step p t h o l d i e = grind arith
 
+-- so each that is finished
 finished_committed : (p : Plan) (t : ℕ) (h : List Entry) → IsHistory p h → is_finished t h ≡ true → is_committed t h ≡ true
 finished_committed p t [] l e = absurd (false≢true e)
 finished_committed p t (e ∷ h) l f = finished_step p t h e.op l.0 (due p e h l) (finished_committed p t h l.0) f
@@ -100,6 +103,7 @@ listed_step p c t h (op.DoneOk n s) l d i e = by_number (s == t) (sym (listed_wi
     by_number false f = i (grind arith)
 listed_step p c t h o l d i e = i e
 
+-- each number of the list
 listed_pending : (p : Plan) (c t : ℕ) (h : List Entry) → IsHistory p h → is_pending t (pending_of c h) ≡ true → IsPending (is_committed t h) (is_finished t h)
 listed_pending p c t [] l e = absurd (false≢true e)
 listed_pending p c t (e ∷ h) l f = listed_step p c t h e.op l.0 (due p e h l) (listed_pending p c t h l.0) f
@@ -138,6 +142,7 @@ pending_step p c t h o k i e = i e
 same_session : (p : Plan) (t n c k m d j : ℕ) (e : Entry) (h : List Entry) → IsHistory p (e ∷ h) → IsPushOf t n c k (e ∷ h) → IsPushOf t m d j h → d ≡ c
 same_session p t n c k m d j e h l w v = sym (its_push_is_one t n c k m d j (e ∷ h) w (its_push_stays p t m d j e h l v)).1
 
+-- a commit is of its push's session
 commit_session : (p : Plan) (t n c k : ℕ) (e : Entry) (h : List Entry) (o : Op) → e.op ≡ o → IsHistory p (e ∷ h) → IsDue p h o → IsPushOf t n c k (e ∷ h) → commits t o ≡ true → is_session c (session_of_push t h) ≡ true
 commit_session p t n c k e h (op.CommitOk m s) g l d w f =
     let v = (commit_is p m s h l.0 d).live in
@@ -153,12 +158,14 @@ was_of p t n c k e h l w x =
     let y = committed_push p t h l.0 x in
     (y.function, y.k, subst (λ d. IsPushOf t y.function d y.k h) (same_session p t n c k y.function y.session y.k e h l w y.is_of) y.is_of)
 
+-- each commit that no leader finished
 pending_listed : (p : Plan) (t n c k : ℕ) (h : List Entry) → IsHistory p h → IsPushOf t n c k h → IsPending (is_committed t h) (is_finished t h) → is_pending t (pending_of c h) ≡ true
 pending_listed p t n c k [] l w e = absurd (false≢true e.0)
 pending_listed p t n c k (e ∷ h) l w f = pending_step p c t h e.op (commit_session p t n c k e h e.op refl l (due p e h l) w) (λ x. let y = was_of p t n c k e h l w x.0 in pending_listed p t y.0 c y.1 h l.0 y.2 x) f
 
 -- Both. -------------------------------------------------------------------------------------------------
 
+-- a push is listed where it is pending
 pub pending_the_same : (p : Plan) (t n c k : ℕ) (h : List Entry) → IsHistory p h → IsPushOf t n c k h → is_pending t (pending_of c h) ≡ rules.is_pending t h
 pending_the_same p t n c k h l w = by_both (is_pending t (pending_of c h)) (is_committed t h) (is_finished t h) (listed_pending p c t h l) (pending_listed p t n c k h l w)
   where

@@ -45,6 +45,7 @@ use Rattle.fk_agree_lead.proofs.Requested.{message_tells_its_request}
 
 -- A note. -----------------------------------------------------------------------------------------------
 
+-- a note leaves all lanes but that of watches
 noted_elsewhere : (p : Plan) (n t w : ℕ) (h : List Entry) (q : Lane) → same_lane q lane.Watch ≡ false → LeavesLane p q h (op.Notify n t w)
 noted_elsewhere p n t w h lane.Leader e = record { none = refl; kept = refl }
 noted_elsewhere p n t w h lane.Watch e = absurd (false≢true (sym e))
@@ -61,6 +62,7 @@ noted_post p n k faults e h m i g = letter_is_pushed p faults lane.Watch (note_t
 
 -- A reply. ----------------------------------------------------------------------------------------------
 
+-- a reply leaves all lanes but its client's inbox
 replied_elsewhere : (p : Plan) (n c k : ℕ) (h : List Entry) (q : Lane) → same_lane q (lane.Inbox c) ≡ false → LeavesLane p q h (op.Reply n c k)
 replied_elsewhere p n c k h lane.Leader e = record { none = refl; kept = refl }
 replied_elsewhere p n c k h lane.Watch e = record { none = refl; kept = refl }
@@ -70,10 +72,12 @@ replied_elsewhere p n c k h (lane.Inbox d) e = record {
   kept = refl;
 }
 
+-- an eviction is one in the message and in the rules
 evicts_the_same : (r : Request) → is_evict (Some r) ≡ lead.is_evict r
 evicts_the_same (request.Close evict) = refl
 evicts_the_same r = refl
 
+-- the rules tell what the message says
 told : (p : Plan) (h : List Entry) (m : Meaning) (b : Bool) → push_message_of p m.tx h ≡ Some m.message → (o : Option Outcome) → option_and_then (tell_of p h) (reply_message b m.message.k o (Some (Leads m.tx))) ≡ Some (if b then tell.Evicted m.message.k m.tx else done_tell m.message.k m.tx m.message)
 told p h m true a o = refl
 told p h m false a o = ap (option_map (done_tell m.message.k m.tx)) a
@@ -106,6 +110,7 @@ replied_post p n faults e h m l i g = letter_is_pushed p faults (lane.Inbox c) (
 
 -- An acknowledgement. -----------------------------------------------------------------------------------
 
+-- an acknowledgement of a leader leaves all lanes but its own
 acked_elsewhere : (p : Plan) (n t : ℕ) (h : List Entry) (q : Lane) → task_of n h ≡ Some (Leads t) → same_lane q lane.Leader ≡ false → LeavesLane p q h (op.AckOk n)
 acked_elsewhere p n t h lane.Leader a e = absurd (false≢true (sym e))
 acked_elsewhere p n t h lane.Watch a e = record { none = refl; kept = ap notifies a }
@@ -117,6 +122,7 @@ ack_leaves p n t faults e h a g = acked_post p lane.Leader n t faults e h refl r
 
 -- Each operation. ---------------------------------------------------------------------------------------
 
+-- the post after each operation
 pub post_case : (p : Plan) (n faults : ℕ) (e : Entry) (h : List Entry) (m : Meaning) (t : table.Meaning) (w : watches.Watches) (u : user.Meaning) (s : Swept) (x : Stage) → IsHistory p (e ∷ h) → IsLeader p n h m → e.op ≡ calm_op t (post_after p h faults) w u s m x → stage_post (post_after p h faults) m x ≡ post_after p (e ∷ h) faults
 post_case p n faults e h m t w u s leader.Commit l i g = sym (post_left p faults e h (calm_op t (post_after p h faults) w u s m leader.Commit) g (may LeavesPost t (post_after p h faults) w u s m leader.Commit (tt, (λ a. tt), (λ path a b. tt))))
 post_case p n faults e h m t w u s leader.Pending l i g = sym (post_left p faults e h (calm_op t (post_after p h faults) w u s m leader.Pending) g (may LeavesPost t (post_after p h faults) w u s m leader.Pending (tt, tt)))

@@ -32,9 +32,11 @@ pub record HasPush (p : Plan) (h : List Entry) (m : Meaning) : Type 0 where
   pub client : is_client p session ≡ true
   pub first : 1 ≤ k
 
+-- a leader was started on its push
 pub lead_task : (p : Plan) (n : ℕ) (h : List Entry) (m : Meaning) → IsHistory p h → IsLeader p n h m → task_of n h ≡ Some (Leads m.tx)
 lead_task p n h m l i = leader_task p n h m.tx m.stage l i.stands
 
+-- each leader has its push
 pub its_push : (p : Plan) (n : ℕ) (h : List Entry) (m : Meaning) → IsHistory p h → IsLeader p n h m → HasPush p h m
 its_push p n h m l i =
     let b = leader_at_or_below_the_head p n m.tx h l (lead_task p n h m l i) in
@@ -63,6 +65,7 @@ pub record HasCommit (p : Plan) (h : List Entry) (m : Meaning) : Type 0 where
   pub committed : committed_as p m.tx h ≡ Some applied
   pub same : applied_of m ≡ applied
 
+-- a push that is committed is what its message applies
 pub its_commit : (p : Plan) (n : ℕ) (h : List Entry) (m : Meaning) → IsHistory p h → IsLeader p n h m → is_committed m.tx h ≡ true → HasCommit p h m
 its_commit p n h m l i c =
     let a = committed_is_filled p m.tx h l c in

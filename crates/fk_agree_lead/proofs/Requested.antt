@@ -24,10 +24,12 @@ none_some x e = grind arith
 some_same : (x y : Pushed) → Some x ≡ Some y → x ≡ y
 some_same x y e = cc
 
+-- a push of a follower tells the request that it asks for
 by_request : (p : Plan) (h : List Entry) (n moment : ℕ) (f : Follower) (x : Pushed) (o : Option Request) → request_of p f.session f.k h ≡ o → option_map (push_with n moment f) o ≡ Some x → TellsRequest p h x
 by_request p h n moment f x None a e = absurd (none_some x e)
 by_request p h n moment f x (Some r) a e = subst (TellsRequest p h) (some_same (push_with n moment f r) x e) a
 
+-- so does that of each function
 by_place : (p : Plan) (h : List Entry) (n : ℕ) (x : Pushed) (y : Place) → push_by p h n y ≡ Some x → TellsRequest p h x
 by_place p h n x (Following f) e = by_request p h n (clock_of h) f x (request_of p f.session f.k h) refl e
 by_place p h n x Absent e = absurd (none_some x e)
@@ -44,6 +46,7 @@ line_tells p t h (op.Push n s) x e = by_number (s == t) e
     by_number false f = absurd (none_some x f)
 line_tells p t h o x e = absurd (none_some x e)
 
+-- so it stays
 request_on : (p : Plan) (e : Entry) (h : List Entry) (x : Pushed) → IsHistory p (e ∷ h) → TellsRequest p h x → TellsRequest p (e ∷ h) x
 request_on p e h x l i = request_stays p x.session x.k e h (request_was_sent p x.session x.k h x.request l.0 i).1 ∙ i
 
@@ -51,6 +54,7 @@ tells_step : (p : Plan) (t : ℕ) (h : List Entry) (x : Pushed) (o : Option Push
 tells_step p t h x None f i e = i e
 tells_step p t h x (Some y) f i e = subst (TellsRequest p h) (some_same y x e) (f y refl)
 
+-- so a push's message tells it
 pub message_tells_its_request : (p : Plan) (t : ℕ) (h : List Entry) (x : Pushed) → IsHistory p h → push_message_of p t h ≡ Some x → request_of p x.session x.k h ≡ Some x.request
 message_tells_its_request p t [] x l e = absurd (none_some x e)
 message_tells_its_request p t (e ∷ h) x l m = request_on p e h x l (tells_step p t h x (push_here p t h e.op) (λ y a. line_tells p t h e.op y a) (λ a. message_tells_its_request p t h x l.0 a) m)

@@ -29,24 +29,25 @@ use Rattle.fk_agree_lead.specs.Leaders.{IsLeader, LeaderStarts, OthersLeaveLeade
 
 -- A function that isn't started has swept nothing. ------------------------------------------------------
 
+-- a function that was started isn't one beyond
+beyond : (m n s : ℕ) → m ≤ s → s < n → Some m ≡ Some n → ⊥
+beyond m n s r b a = let x : m ≡ n = grind arith in absurd (omega (arith, b, r, x))
+
+-- a line is no sweep of a function beyond those that were started
 swept_step : (p : Plan) (n : ℕ) (e : Entry) (h : List Entry) (o : Op) → e.op ≡ o → IsHistory p h → IsDue p h o → starts_of h < n → swept_by p n h ≡ nothing_swept → swept_by p n (e ∷ h) ≡ nothing_swept
 swept_step p n e h (op.SweepOk m t k) g l d b i =
     let r = (place_bound p m h l (ap is_absent d.0)).1 in
-    swept_by_stays p n e h (λ a. other m r (sym (ap actor g) ∙ a)) ∙ i
-  where
-    other : (m : ℕ) → m ≤ starts_of h → Some m ≡ Some n → ⊥
-    other m r a = let x : m ≡ n = grind arith in absurd (omega (arith, b, r, x))
+    swept_by_stays p n e h (λ a. beyond m n (starts_of h) r b (sym (ap actor g) ∙ a)) ∙ i
 swept_step p n e h (op.SweepMiss m t w k) g l d b i =
     let r = (place_bound p m h l (ap is_absent d.0)).1 in
-    swept_by_stays p n e h (λ a. other m r (sym (ap actor g) ∙ a)) ∙ i
-  where
-    other : (m : ℕ) → m ≤ starts_of h → Some m ≡ Some n → ⊥
-    other m r a = let x : m ≡ n = grind arith in absurd (omega (arith, b, r, x))
+    swept_by_stays p n e h (λ a. beyond m n (starts_of h) r b (sym (ap actor g) ∙ a)) ∙ i
 swept_step p n e h o g l d b i = ap (λ o. swept_or (sweep_in n o (fired_watches p (e ∷ h))) (swept_by p n h)) g ∙ i
 
+-- a line starts no less
 starts_more : (o : Op) (m n : ℕ) → count_start (started_in o) m < n → m < n
 starts_more o m n b = grind (arith, nat_tests)
 
+-- so such a function has swept nothing
 nothing_yet : (p : Plan) (n : ℕ) (h : List Entry) → IsHistory p h → starts_of h < n → swept_by p n h ≡ nothing_swept
 nothing_yet p n [] l b = refl
 nothing_yet p n (e ∷ h) l b = let c = starts_more e.op (starts_of h) n b in swept_step p n e h e.op refl l.0 (due p e h l) c (nothing_yet p n h l.0 c)
@@ -59,6 +60,7 @@ one_pushed = one_message pusheds
 next_number : (n m : ℕ) → n ≡ m + 1 → m < n
 next_number n m e = omega (arith, e)
 
+-- it starts on the message of its push
 starts_on : (p : Plan) (n t : ℕ) (e : Entry) (h : List Entry) (x : Pushed) → IsHistory p (e ∷ h) → e.op ≡ op.Leader n t → push_message_of p t h ≡ Some x → IsLeader p n (e ∷ h) (started n t x)
 starts_on p n t e h x l g a = record {
   inv = refl;

@@ -34,6 +34,7 @@ use Rattle.fk_agree_lead.proofs.Pushed.{HasPush, its_push}
 
 -- A commit. ---------------------------------------------------------------------------------------------
 
+-- a commit writes where its request is next and all locks are held
 commit_leaves : (p : Plan) (n faults : ℕ) (e : Entry) (h : List Entry) (m : Meaning) → IsHistory p (e ∷ h) → IsLeader p n h m → e.op ≡ commit_op (table_after p h faults) m.inv m.tx m.message → stage_table (table_after p h faults) m leader.Commit ≡ table_after p (e ∷ h) faults
 commit_leaves p n faults e h m l i g =
     settled_so t m.message.inv m.message.session m.message.k (in_path_order m.message.paths) (commit_writes m.tx m.message) first refl
@@ -47,6 +48,7 @@ commit_leaves p n faults e h m l i g =
 
 -- A push that is dropped, or done. ----------------------------------------------------------------------
 
+-- a push is dropped where none up to it is finished
 drop_leaves : (p : Plan) (n t faults : ℕ) (e : Entry) (h : List Entry) → IsHistory p (e ∷ h) → e.op ≡ (if nat_lt (done_of h) t then op.DropOk n t else op.DropMiss n t (done_of h)) → transacted (finish_conds t) (drop_writes t) (table_after p h faults) ≡ table_after p (e ∷ h) faults
 drop_leaves p n t faults e h l g = by_less (nat_lt (done_of h) t) g
   where
@@ -57,6 +59,7 @@ drop_leaves p n t faults e h l g = by_less (nat_lt (done_of h) t) g
     by_less true f = drop_is_written p n t faults e h l f
     by_less false f = left_table p faults e h (op.DropMiss n t (done_of h)) f tt
 
+-- so it is done
 done_leaves : (p : Plan) (n faults : ℕ) (e : Entry) (h : List Entry) (m : Meaning) → IsHistory p (e ∷ h) → HasPush p h m → e.op ≡ (if nat_lt (done_of h) m.tx then op.DoneOk n m.tx else op.DoneMiss n m.tx (done_of h)) → transacted (finish_conds m.tx) (done_writes m.message.session m.tx) (table_after p h faults) ≡ table_after p (e ∷ h) faults
 done_leaves p n faults e h m l x g = ap (λ c. transacted (finish_conds m.tx) (done_writes c m.tx) (table_after p h faults)) x.tells.session ∙ by_less (nat_lt (done_of h) m.tx) g
   where
@@ -69,6 +72,7 @@ done_leaves p n faults e h m l x g = ap (λ c. transacted (finish_conds m.tx) (d
 
 -- Each operation. ---------------------------------------------------------------------------------------
 
+-- the table after each operation
 pub table_case : (p : Plan) (n faults : ℕ) (e : Entry) (h : List Entry) (m : Meaning) (q : post.Meaning) (w : watches.Watches) (u : user.Meaning) (s : Swept) (x : Stage) → IsHistory p (e ∷ h) → IsLeader p n h m → e.op ≡ calm_op (table_after p h faults) q w u s m x → stage_table (table_after p h faults) m x ≡ table_after p (e ∷ h) faults
 table_case p n faults e h m q w u s leader.Commit l i g = commit_leaves p n faults e h m l i g
 table_case p n faults e h m q w u s leader.Pending l i g = left_table p faults e h (calm_op (table_after p h faults) q w u s m leader.Pending) g (may LeavesRecords (table_after p h faults) q w u s m leader.Pending (tt, tt))

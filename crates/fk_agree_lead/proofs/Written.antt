@@ -52,6 +52,7 @@ own_the_same path (x ∷ es) = ap (λ ys. cond (same_path path x.path) (x ∷ ys
 store_left : (p : Plan) (faults : ℕ) (e : Entry) (h : List Entry) (o : Op) → IsHistory p (e ∷ h) → e.op ≡ o → LeavesStore o → store_after p h faults ≡ store_after p (e ∷ h) faults
 store_left p faults e h o l g k = sym (store_stays p faults e h l (subst LeavesStore (sym g) k))
 
+-- a put writes where the record has an earlier stamp
 put_leaves : (p : Plan) (faults : ℕ) (e : Entry) (h : List Entry) (m : Meaning) (path : PathNames) → IsHistory p (e ∷ h) → HasCommit p h m → e.op ≡ (if nat_lt (stamp_of path h) m.tx then op.PutOk m.inv m.tx path else op.PutMiss m.inv m.tx path (stamp_of path h)) → (if nat_lt (stamp_of path h) m.tx then with_put (store_after p h faults) path m.tx m.message.moment (edits_of path m) else store_after p h faults) ≡ store_after p (e ∷ h) faults
 put_leaves p faults e h m path l c g = by_less (nat_lt (stamp_of path h) m.tx) g
   where
@@ -61,6 +62,7 @@ put_leaves p faults e h m path l c g = by_less (nat_lt (stamp_of path h) m.tx) g
         ∙ (ap (λ a. with_put (store_after p h faults) path m.tx a.moment (edits_at path (effects a))) c.same ∙ put_is_written p m.inv m.tx faults path e h c.applied l f c.committed)
     by_less false f = store_left p faults e h (op.PutMiss m.inv m.tx path (stamp_of path h)) l f tt
 
+-- a publication writes where the mark is before it
 publish_leaves : (p : Plan) (n faults : ℕ) (e : Entry) (h : List Entry) (m : Meaning) → IsHistory p (e ∷ h) → IsLeader p n h m → e.op ≡ (if nat_lt (mark_of h) m.tx then op.PublishOk m.inv m.tx else op.PublishMiss m.inv m.tx (mark_of h)) → (if nat_lt (mark_of h) m.tx then published (store_after p h faults) m.tx m.swept.epoch else store_after p h faults) ≡ store_after p (e ∷ h) faults
 publish_leaves p n faults e h m l i g = by_less (nat_lt (mark_of h) m.tx) g
   where
@@ -71,6 +73,7 @@ publish_leaves p n faults e h m l i g = by_less (nat_lt (mark_of h) m.tx) g
     by_less true f = ap (published (store_after p h faults) m.tx) (epoch f) ∙ publication_is_written p m.inv m.tx faults e h l f
     by_less false f = store_left p faults e h (op.PublishMiss m.inv m.tx (mark_of h)) l f tt
 
+-- the user storage after each operation
 store_case : (p : Plan) (n faults : ℕ) (e : Entry) (h : List Entry) (m : Meaning) (t : table.Meaning) (q : post.Meaning) (w : watches.Watches) (s : Swept) (x : Stage) → IsHistory p (e ∷ h) → IsLeader p n h m → place_of p n h ≡ Leading m.tx x → e.op ≡ calm_op t q w (store_after p h faults) s m x → stage_user (store_after p h faults) m x ≡ store_after p (e ∷ h) faults
 store_case p n faults e h m t q w s leader.Commit l i b g = store_left p faults e h (calm_op t q w (store_after p h faults) s m leader.Commit) l g (may LeavesStore t q w (store_after p h faults) s m leader.Commit (tt, (λ a. tt), (λ path a b. tt)))
 store_case p n faults e h m t q w s leader.Pending l i b g = store_left p faults e h (calm_op t q w (store_after p h faults) s m leader.Pending) l g (may LeavesStore t q w (store_after p h faults) s m leader.Pending (tt, tt))
@@ -89,6 +92,7 @@ store_case p n faults e h m t q w s leader.Ended l i b g = store_left p faults e
 watches_left : (p : Plan) (faults : ℕ) (e : Entry) (h : List Entry) (o : Op) → e.op ≡ o → LeavesWatches o → watches_after p h faults ≡ watches_after p (e ∷ h) faults
 watches_left p faults e h o g k = sym (watches_stay p faults e h (subst LeavesWatches (sym g) k))
 
+-- the table of watches after each operation
 watches_case : (p : Plan) (n faults : ℕ) (e : Entry) (h : List Entry) (m : Meaning) (t : table.Meaning) (q : post.Meaning) (u : user.Meaning) (s : Swept) (x : Stage) → IsHistory p (e ∷ h) → IsLeader p n h m → place_of p n h ≡ Leading m.tx x → e.op ≡ calm_op t q (watches_after p h faults) u s m x → stage_watches (watches_after p h faults) m x ≡ watches_after p (e ∷ h) faults
 watches_case p n faults e h m t q u s leader.Commit l i b g = watches_left p faults e h (calm_op t q (watches_after p h faults) u s m leader.Commit) g (may LeavesWatches t q (watches_after p h faults) u s m leader.Commit (tt, (λ a. tt), (λ path a b. tt)))
 watches_case p n faults e h m t q u s leader.Pending l i b g = watches_left p faults e h (calm_op t q (watches_after p h faults) u s m leader.Pending) g (may LeavesWatches t q (watches_after p h faults) u s m leader.Pending (tt, tt))
@@ -117,7 +121,7 @@ leader_is_written p n e h m t q u w s l a i g = record {
 
 -- After a fault. ----------------------------------------------------------------------------------------
 
--- how often calls of each service have failed
+-- how often calls of the table have failed
 abbrev table_faults : ℕ → Stage → ℕ
 table_faults f leader.Commit = one_more f
 table_faults f leader.Pending = one_more f
@@ -144,6 +148,7 @@ failed_table p h m f leader.Done = refl
 failed_table p h m f leader.Ack = refl
 failed_table p h m f leader.Ended = refl
 
+-- and of the post
 abbrev post_faults : ℕ → Stage → ℕ
 post_faults f leader.Commit = f
 post_faults f leader.Pending = f
@@ -170,6 +175,7 @@ failed_post p h m f leader.Done = refl
 failed_post p h m f leader.Ack = refl
 failed_post p h m f leader.Ended = refl
 
+-- and of the user storage
 abbrev user_faults : ℕ → Stage → ℕ
 user_faults f leader.Commit = f
 user_faults f leader.Pending = f
@@ -196,6 +202,7 @@ failed_user p h m f leader.Done = refl
 failed_user p h m f leader.Ack = refl
 failed_user p h m f leader.Ended = refl
 
+-- and of the table of watches
 abbrev watches_faults : ℕ → Stage → ℕ
 watches_faults f leader.Commit = f
 watches_faults f leader.Pending = f
@@ -238,6 +245,7 @@ leader_fault_is_written p n e h m t q u w s l a i g =
 abbrev Prints : Plan → List Entry → Meaning → Op → Type 0
 Prints p h m o = next_lines p h o ≡ printed_at m o
 
+-- each operation that it may make does so
 prints_all : (p : Plan) (n : ℕ) (h : List Entry) (m : Meaning) (x : Stage) → IsHistory p h → IsLeader p n h m → place_of p n h ≡ Leading m.tx x → May (Prints p h m) m x
 prints_all p n h m leader.Commit l i b = (refl, (λ a. refl), (λ path a b. refl))
 prints_all p n h m leader.Pending l i b = (refl, refl)
