@@ -6,6 +6,7 @@ pub mod Finishing
 pub mod Firing
 pub mod Granting
 pub mod Heading
+pub mod Held
 pub mod Listing
 pub mod Locking
 pub mod Messages

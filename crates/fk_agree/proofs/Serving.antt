@@ -1,14 +1,17 @@
 -- All services at their start, where nothing changes them, and what each holds.
-use Rattle.std.specs.Prelude.{◌==◌}
-use Rattle.std.proofs.Common.{◌≡◌, ℕ, true, false, cond, List, ◌∷◌, length, refl, sym, ◌∙◌, ap, subst, arith, Some, None}
+use Rattle.std.specs.Prelude.{◌==◌, if◌then◌else◌}
+use Rattle.std.proofs.Common.{◌≡◌, ℕ, Bool, true, false, cond, List, ◌∷◌, length, refl, sym, ◌∙◌, ap, subst, arith, Option, Some, None}
 use Rattle.std.proofs.lemmas.Bool.Decides.{nat_tests}
 use Rattle.fk_print.specs.declared.entry.Entry.{Entry}
 use Rattle.fk_print.specs.declared.op.Op.{Op}
 use Rattle.fk_print.specs.declared.op.Op.TheVariants as op
 use Rattle.fk_print.specs.declared.op.Word.{Word}
-use Rattle.fk_queue.specs.Lanes.{is_lane}
-use Rattle.fk_queue.specs.Letters.{empty_lane}
+use Rattle.fk_queue.specs.Answers as answers
+use Rattle.fk_queue.specs.Answers.{ack_of, after_ack}
+use Rattle.fk_queue.specs.Lanes.{is_lane, same_lane}
+use Rattle.fk_queue.specs.Letters.{empty_lane, head_number}
 use Rattle.fk_queue.specs.Meaning as post
+use Rattle.fk_queue.specs.declared.answer.Ack.TheVariants as ack
 use Rattle.fk_queue.specs.declared.lane.Lane.{Lane}
 use Rattle.fk_queue.specs.declared.lane.Lane.TheVariants as lane
 use Rattle.fk_store.specs.Conds.{session_of}
@@ -20,13 +23,14 @@ use Rattle.fk_stand.specs.Posts.{lane_after, letter_in, post_after, removes}
 use Rattle.fk_stand.specs.Stores.{store_after, watches_after}
 use Rattle.fk_stand.specs.Tables.{session_record, table_after}
 use Rattle.fk_spec.specs.Plan.{Plan, is_client}
+use Rattle.fk_spec.specs.Follower.{is_number}
 use Rattle.fk_agree.specs.Letters.{LeavesLane}
 use Rattle.fk_agree.specs.Records.{LeavesRecords}
 use Rattle.fk_agree.specs.Services.{LeavesServices, NewServicesStand, ServicesStay}
 use Rattle.fk_agree.specs.Stored.{LeavesStore}
 use Rattle.fk_agree.specs.Watched.{LeavesWatches}
 use Rattle.fk_agree.proofs.Granting.{new_table_stands, records_stay}
-use Rattle.fk_agree.proofs.Posting.{new_post_stands, post_stays}
+use Rattle.fk_agree.proofs.Posting.{head_is_popped, new_post_stands, post_stays}
 use Rattle.fk_agree.proofs.Putting.{new_store_stands, store_stays}
 use Rattle.fk_agree.proofs.Watching.{new_watches_stand, watches_stay}
 
@@ -147,3 +151,20 @@ session_is p c h t s i = ap (λ z. or_new_session (z.sessions c)) s ∙ ap (λ b
 
 pub session_there : (p : Plan) (c : ℕ) (h : List Entry) (t : table.Meaning) → t ≡ table_after p h t.faults → is_client p c ≡ true → t.sessions c ≡ Some (session_record p c h)
 session_there p c h t s i = ap (λ z. z.sessions c) s ∙ ap (λ b. cond b (Some (session_record p c h)) None) i
+
+-- After an acknowledgement. -----------------------------------------------------------------------------
+
+-- where a lane's head has the number, it is removed from that lane alone; else nothing is
+pub acked_post : (p : Plan) (l : Lane) (n k faults : ℕ) (e : Entry) (h : List Entry) → is_lane (length p.asks) l ≡ true → letter_in p l h (op.AckOk n) ≡ None → removes l h (op.AckOk n) ≡ true → ((q : Lane) → same_lane q l ≡ false → LeavesLane p q h (op.AckOk n))
+    → e.op ≡ (if is_number k (head_number ((post_after p h faults).lanes l)) then op.AckOk n else op.AckGone n) → after_ack (post_after p h faults) l (ack_of (post_after p h faults) l k) ≡ post_after p (e ∷ h) faults
+acked_post p l n k faults e h i w r o g = by_head (is_number k (head_number ((post_after p h faults).lanes l))) refl g
+  where
+    same : (x : Option ℕ) → answers.is_number k x ≡ is_number k x
+    same None = refl
+    same (Some j) = refl
+
+    by_head : (b : Bool) → is_number k (head_number ((post_after p h faults).lanes l)) ≡ b → e.op ≡ (if b then op.AckOk n else op.AckGone n) → after_ack (post_after p h faults) l (ack_of (post_after p h faults) l k) ≡ post_after p (e ∷ h) faults
+    by_head true a b =
+        ap (λ z. after_ack (post_after p h faults) l (if z then ack.Acked else ack.NotHead)) (same (head_number ((post_after p h faults).lanes l)) ∙ a)
+        ∙ head_is_popped p faults l e h i (ap (letter_in p l h) b ∙ w) (ap (removes l h) b ∙ r) (λ q x. subst (LeavesLane p q h) (sym b) (o q x))
+    by_head false a b = ap (λ z. after_ack (post_after p h faults) l (if z then ack.Acked else ack.NotHead)) (same (head_number ((post_after p h faults).lanes l)) ∙ a) ∙ sym (post_left p faults e h (op.AckGone n) b tt)

@@ -10,7 +10,6 @@ use Rattle.fk_print.specs.declared.op.Op.TheVariants as op
 use Rattle.fk_queue.specs.Letters.{head_number}
 use Rattle.fk_queue.specs.Meaning as post
 use Rattle.fk_queue.specs.declared.lane.Lane.TheVariants as lane
-use Rattle.fk_store.specs.Conds.{session_of}
 use Rattle.fk_store.specs.Meaning as table
 use Rattle.fk_follow.specs.Fit.{IsRead, IsReadAt}
 use Rattle.fk_follow.specs.Meaning.{Meaning, is_end, is_ended}
@@ -30,9 +29,10 @@ use Rattle.fk_spec.specs.Next.{IsHistory}
 use Rattle.fk_law.proofs.Clients.{follows_a_client, follows_from_1}
 use Rattle.fk_law.proofs.Starting.{follower_task}
 use Rattle.fk_agree.proofs.Counting.{heads_are_the_rules, lanes_are_counted}
+use Rattle.fk_agree.proofs.Held.{passed_same, settled_is}
 use Rattle.fk_agree.proofs.Serving.{lane_is, session_is}
 use Rattle.fk_agree_follow.specs.Followers.{FollowerFails, FollowerMakesItsOperation, IsFollower}
-use Rattle.fk_agree_follow.proofs.Reading.{lock_same, locked_is, owned_same, passed_same, session_same}
+use Rattle.fk_agree_follow.proofs.Reading.{lock_same, locked_is, owned_same, session_same}
 
 -- Its session is a client's. ----------------------------------------------------------------------------
 
@@ -77,9 +77,6 @@ pub record Reads (p : Plan) (n : ℕ) (h : List Entry) (f : Follower) : Type 0 w
 
 pub its_reads : (p : Plan) (n : ℕ) (h : List Entry) (m : Meaning) → IsHistory p h → IsFollower p n h m → Reads p n h m.follower
 its_reads p n h m l i = record { client = its_client p n h m l i; real = its_session p n h m l i; locks = locked_is p n h m.follower l i.stands }
-
-pub settled_is : (p : Plan) (c faults : ℕ) (h : List Entry) → is_client p c ≡ true → (session_of (table_after p h faults) c).settled ≡ settled_of c h
-settled_is p c faults h i = ap (λ r. r.settled) (session_is p c h (table_after p h faults) refl i)
 
 passed_is : (p : Plan) (n faults : ℕ) (h : List Entry) (f : Follower) → Reads p n h f → lock_passed n (table_after p h faults) (locked f) ≡ first_passed n h (in_path_order (granted n h))
 passed_is p n faults h f i = passed_same p n faults h (locked f) ∙ ap (first_passed n h) i.locks

@@ -6,12 +6,10 @@ use Rattle.fk_tree.specs.declared.request.Request.{Request}
 use Rattle.fk_tree.specs.declared.request.Request.TheVariants as request
 use Rattle.fk_print.specs.declared.entry.Entry.{Entry}
 use Rattle.fk_print.specs.declared.op.Op.TheVariants as op
-use Rattle.fk_queue.specs.Answers as answers
 use Rattle.fk_queue.specs.Answers.{ack_of, after_ack}
 use Rattle.fk_queue.specs.Lanes.{same_lane}
 use Rattle.fk_queue.specs.Letters.{head_number}
-use Rattle.fk_queue.specs.Meaning.{popped, pushed}
-use Rattle.fk_queue.specs.declared.answer.Ack.TheVariants as ack
+use Rattle.fk_queue.specs.Meaning.{pushed}
 use Rattle.fk_queue.specs.declared.lane.Lane.{Lane}
 use Rattle.fk_queue.specs.declared.lane.Lane.TheVariants as lane
 use Rattle.fk_store.specs.declared.outcome.Outcome as store
@@ -23,7 +21,7 @@ use Rattle.fk_wire.specs.declared.message.Tell.{Tell}
 use Rattle.fk_wire.specs.declared.version.Version.TheVariants as version
 use Rattle.fk_stand.specs.Messages as stand
 use Rattle.fk_stand.specs.Messages.{push_by, tell_of}
-use Rattle.fk_stand.specs.Posts.{letter_in, post_after, removes}
+use Rattle.fk_stand.specs.Posts.{letter_in, post_after}
 use Rattle.fk_stand.specs.Tables.{kept_as}
 use Rattle.fk_spec.specs.Plan.{Plan, is_client}
 use Rattle.fk_spec.specs.Start.{Follows, clock_of, request_of, task_of}
@@ -32,8 +30,8 @@ use Rattle.fk_spec.specs.Follower.{Follower, is_number}
 use Rattle.fk_spec.specs.Function.{Following, place_of}
 use Rattle.fk_spec.specs.Lanes.{follows_session, is_evict, kept_message, leads, notifies, reply_message}
 use Rattle.fk_agree.specs.Letters.{LeavesLane}
-use Rattle.fk_agree.proofs.Posting.{head_is_popped, letter_is_pushed, post_stays}
-use Rattle.fk_agree.proofs.Serving.{other_number, post_left}
+use Rattle.fk_agree.proofs.Posting.{letter_is_pushed, post_stays}
+use Rattle.fk_agree.proofs.Serving.{acked_post, other_number}
 use Rattle.fk_agree_follow.proofs.Reading.{same_paths}
 
 -- A push. -----------------------------------------------------------------------------------------------
@@ -110,17 +108,6 @@ acked_elsewhere p n c k h lane.Watch t e = record { none = refl; kept = ap notif
 acked_elsewhere p n c k h (lane.Session d) t e = record { none = refl; kept = ap (follows_session d) t ∙ other_number c d e }
 acked_elsewhere p n c k h (lane.Inbox d) t e = record { none = refl; kept = refl }
 
-acked_post : (p : Plan) (n c k faults : ℕ) (e : Entry) (h : List Entry) → e.op ≡ op.AckOk n → is_client p c ≡ true → task_of n h ≡ Some (Follows c k) → popped (lane.Session c) (post_after p h faults) ≡ post_after p (e ∷ h) faults
-acked_post p n c k faults e h g i t = head_is_popped p faults (lane.Session c) e h i (ap (letter_in p (lane.Session c) h) g) (ap (removes (lane.Session c) h) g ∙ (ap (follows_session c) t ∙ eq-eqb c c refl)) (λ q x. subst (LeavesLane p q h) (sym g) (acked_elsewhere p n c k h q t x))
-
 pub removed_post : (p : Plan) (n c k faults : ℕ) (e : Entry) (h : List Entry) → e.op ≡ (if is_number k (head_number ((post_after p h faults).lanes (lane.Session c))) then op.AckOk n else op.AckGone n) → is_client p c ≡ true → task_of n h ≡ Some (Follows c k)
     → after_ack (post_after p h faults) (lane.Session c) (ack_of (post_after p h faults) (lane.Session c) k) ≡ post_after p (e ∷ h) faults
-removed_post p n c k faults e h g i t = by_head (is_number k (head_number ((post_after p h faults).lanes (lane.Session c)))) refl g
-  where
-    same : (o : Option ℕ) → answers.is_number k o ≡ is_number k o
-    same None = refl
-    same (Some j) = refl
-
-    by_head : (b : Bool) → is_number k (head_number ((post_after p h faults).lanes (lane.Session c))) ≡ b → e.op ≡ (if b then op.AckOk n else op.AckGone n) → after_ack (post_after p h faults) (lane.Session c) (ack_of (post_after p h faults) (lane.Session c) k) ≡ post_after p (e ∷ h) faults
-    by_head true a b = ap (λ z. after_ack (post_after p h faults) (lane.Session c) (if z then ack.Acked else ack.NotHead)) (same (head_number ((post_after p h faults).lanes (lane.Session c))) ∙ a) ∙ acked_post p n c k faults e h b i t
-    by_head false a b = ap (λ z. after_ack (post_after p h faults) (lane.Session c) (if z then ack.Acked else ack.NotHead)) (same (head_number ((post_after p h faults).lanes (lane.Session c))) ∙ a) ∙ sym (post_left p faults e h (op.AckGone n) b tt)
+removed_post p n c k faults e h g i t = acked_post p (lane.Session c) n k faults e h i refl (ap (follows_session c) t ∙ eq-eqb c c refl) (λ q x. acked_elsewhere p n c k h q t x) g

@@ -1,6 +1,6 @@
 -- What a follower reads of the services is what the rules read of the history.
-use Rattle.std.specs.Prelude.{◌+◌, ◌-◌, ◌==◌, ◌||◌, if◌then◌else◌, nat_lt, not, option_map}
-use Rattle.std.proofs.Common.{◌≡◌, ◌≢◌, ℕ, zero, suc, ◌≤◌, Bool, true, false, cond, List, [], ◌∷◌, refl, sym, ◌∙◌, ap, arith, Option, Some, None}
+use Rattle.std.specs.Prelude.{◌+◌, ◌==◌, ◌||◌, if◌then◌else◌, nat_lt, not}
+use Rattle.std.proofs.Common.{◌≡◌, ◌≢◌, ℕ, Bool, true, false, List, [], ◌∷◌, refl, sym, ◌∙◌, ap, arith, Option, Some, None}
 use Rattle.std.proofs.lemmas.Bool.Decides.{nat_tests}
 use Rattle.fk_base.specs.Path.{PathNames}
 use Rattle.fk_tree.specs.Sorted.{in_path_order}
@@ -9,17 +9,11 @@ use Rattle.fk_tree.proofs.Order.{by_test, path_exact, path_total}
 use Rattle.fk_tree.proofs.Rising.{same_rising}
 use Rattle.fk_print.specs.declared.entry.Entry.{Entry}
 use Rattle.fk_print.specs.declared.op.Op.TheVariants as op
-use Rattle.fk_settle.specs.Held as held
-use Rattle.fk_settle.specs.Transaction.{hold_conds, settle_conds, transacted, written_unless}
 use Rattle.fk_store.specs.Answers.{AreOwned, has_owner}
-use Rattle.fk_store.specs.Conds.{first_missed, missed_from, session_of, Miss, found_at}
 use Rattle.fk_store.specs.Locks as store
 use Rattle.fk_store.specs.Locks.{is_free}
-use Rattle.fk_store.specs.Meaning.{Meaning, lock_of, or_no_record}
-use Rattle.fk_store.specs.Writes.{all_written}
-use Rattle.fk_store.specs.declared.cond.Cond.TheVariants as cond_of
+use Rattle.fk_store.specs.Meaning.{lock_of, or_no_record}
 use Rattle.fk_store.specs.declared.node_record.NodeRecord.{NodeRecord}
-use Rattle.fk_store.specs.declared.write.Write.{Write}
 use Rattle.fk_follow.specs.Operation as follow
 use Rattle.fk_follow.specs.Operation.{lock_passed, passed_as}
 use Rattle.fk_law_tree.specs.Owners.{is_owned}
@@ -27,7 +21,7 @@ use Rattle.fk_law.proofs.Filling.{owned_has, owned_rise}
 use Rattle.fk_stand.specs.Tables.{kept_as, lock_from, session_record, table_after}
 use Rattle.fk_spec.specs.Plan.{Plan}
 use Rattle.fk_spec.specs.Start.{clock_of}
-use Rattle.fk_spec.specs.Locks.{Grant, first_passed, granted, has_released, is_held_by, last_grant, may_grant, passed_on}
+use Rattle.fk_spec.specs.Locks.{Grant, granted, has_released, last_grant, may_grant}
 use Rattle.fk_spec.specs.Settling.{Committed, Outcome, Passed, Refused, outcome_of, settled_of}
 use Rattle.fk_spec.specs.Stored.{committed_of, owned_after, stored_view}
 use Rattle.fk_spec.specs.Follower as follower
@@ -36,7 +30,7 @@ use Rattle.fk_spec.specs.Function.{Following, place_of}
 use Rattle.fk_spec.specs.Next.{IsHistory}
 use Rattle.fk_law.proofs.Recording.{records_are_of_its_grants}
 use Rattle.fk_agree.proofs.Granting.{shows_node}
-use Rattle.fk_agree.proofs.Locking.{holds_the_same, lock_is}
+use Rattle.fk_agree.proofs.Locking.{lock_is}
 
 -- The session's record. ---------------------------------------------------------------------------------
 
@@ -63,17 +57,6 @@ free_or_busy lock n h path (Some g) = by_test (has_released g.holder h) (λ b. (
 pub lock_same : (p : Plan) (n faults : ℕ) (h : List Entry) (path : PathNames) → follow.lock_op (clock_of h) p.lock n path (lock_of (table_after p h faults) path) ≡ follower.lock_op p.lock h n path
 lock_same p n faults h path = ap (follow.lock_op (clock_of h) p.lock n path) (lock_is p h faults path) ∙ free_or_busy p.lock n h path (last_grant path h)
 
-found_so : (h : List Entry) (q : PathNames) (o : Option Grant) → passed_as (held.passed_on q (lock_from h o)) ≡ passed_on q o
-found_so h q None = refl
-found_so h q (Some g) = refl
-
--- the first lock that isn't held any more
-pub passed_same : (p : Plan) (n faults : ℕ) (h : List Entry) (ps : List PathNames) → lock_passed n (table_after p h faults) ps ≡ first_passed n h ps
-passed_same p n faults h [] = refl
-passed_same p n faults h (q ∷ ps) =
-    ap (λ b. option_map passed_as (cond b (held.first_passed n (table_after p h faults) ps) (Some (held.passed_on q (lock_of (table_after p h faults) q))))) (holds_the_same p n h faults q)
-    ∙ by_test (is_held_by n h (last_grant q h)) (λ b. option_map passed_as (cond b (held.first_passed n (table_after p h faults) ps) (Some (held.passed_on q (lock_of (table_after p h faults) q)))) ≡ cond b (first_passed n h ps) (Some (passed_on q (last_grant q h)))) (λ _. passed_same p n faults h ps) (λ _. ap Some (ap (λ l. passed_as (held.passed_on q l)) (lock_is p h faults q) ∙ found_so h q (last_grant q h)))
-
 pub same_paths : (gs : List Granted) → follow.paths_of gs ≡ paths_of gs
 same_paths [] = refl
 same_paths (g ∷ gs) = ap (λ ps. g.path ∷ ps) (same_paths gs)
@@ -95,31 +78,3 @@ pub owned_same : (p : Plan) (c faults : ℕ) (h : List Entry) (owned : List Path
 owned_same p c faults h owned l z o =
     same_rising path_total path_exact owned (owned_after c (committed_of p h)) o.rising (owned_rise c (committed_of p h))
     (λ q. o.exact q ∙ (owner_of_record c ((table_after p h faults).nodes q) ∙ (ap (is_owned c) (shows_node p q h l) ∙ sym (owned_has c (committed_of p h) q z))))
-
--- Settling. ---------------------------------------------------------------------------------------------
-
--- what comes of a transaction that settles: it is made where its request is next and no lock passed on
-abbrev pub settled_if : {A : Type 0} → Bool → Option held.Passed → A → A → A
-settled_if true None a b = a
-settled_if true (Some x) a b = b
-settled_if false o a b = b
-
-missed_then : (ws : List Write) (t : Meaning) (i n : ℕ) (ps : List PathNames) → written_unless (missed_from i t (hold_conds n ps)) ws t ≡ settled_if true (held.first_passed n t ps) (all_written ws t) t
-missed_then ws t i n [] = refl
-missed_then ws t i n (q ∷ ps) = by_test (store.is_held_by n (lock_of t q)) (λ b. written_unless (cond b (missed_from (suc i) t (hold_conds n ps)) (Some (record { place = i; found = found_at t (cond_of.Holds q n) }))) ws t ≡ settled_if true (cond b (held.first_passed n t ps) (Some (held.passed_on q (lock_of t q)))) (all_written ws t) t) (λ _. missed_then ws t (suc i) n ps) (λ _. refl)
-
-next_number : (s k : ℕ) → 1 ≤ k → (s == k - 1) ≡ (s + 1 == k)
-next_number s zero a = absurd (omega (arith, a))
-next_number s (suc k) a = grind (arith, nat_tests)
-
-pub settled_so : (t : Meaning) (n c k : ℕ) (ps : List PathNames) (ws : List Write) → 1 ≤ k → t.armed ≡ false → transacted (settle_conds c k n ps) ws t ≡ settled_if ((session_of t c).settled + 1 == k) (held.first_passed n t ps) (all_written ws t) t
-settled_so t n c k ps ws a b =
-    calm
-    ∙ (ap (λ z. written_unless (cond z (missed_from 1 t (hold_conds n ps)) (Some miss)) ws t) (next_number (session_of t c).settled k a)
-    ∙ by_test ((session_of t c).settled + 1 == k) (λ z. written_unless (cond z (missed_from 1 t (hold_conds n ps)) (Some miss)) ws t ≡ settled_if z (held.first_passed n t ps) (all_written ws t) t) (λ _. missed_then ws t 1 n ps) (λ _. refl))
-  where
-    miss : Miss
-    miss = record { place = 0; found = found_at t (cond_of.Settled c (k - 1)) }
-
-    calm : transacted (settle_conds c k n ps) ws t ≡ written_unless (first_missed t (settle_conds c k n ps)) ws t
-    calm = rw b refl

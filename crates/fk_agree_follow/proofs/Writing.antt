@@ -1,5 +1,5 @@
 -- What the services hold after an operation of a follower.
-use Rattle.std.specs.Prelude.{◌+◌, ◌==◌, if◌then◌else◌, option_map}
+use Rattle.std.specs.Prelude.{◌+◌, ◌==◌, if◌then◌else◌}
 use Rattle.std.proofs.Common.{◌≡◌, ℕ, ◌≤◌, Bool, true, false, List, [], ◌∷◌, refl, sym, ◌∙◌, ap, subst, Option, Some, None}
 use Rattle.fk_base.specs.Faults.{one_more}
 use Rattle.fk_base.specs.Path.{PathNames}
@@ -21,7 +21,7 @@ use Rattle.fk_store.specs.Writes.{all_written, written}
 use Rattle.fk_store.specs.declared.outcome.Outcome.TheVariants as kept
 use Rattle.fk_store.specs.declared.write.Write.TheVariants as write
 use Rattle.fk_follow.specs.Meaning.{Meaning}
-use Rattle.fk_follow.specs.Operation.{calm_op, lock_op, lock_passed, locked, passed_as, session_op}
+use Rattle.fk_follow.specs.Operation.{calm_op, lock_op, lock_passed, locked, session_op}
 use Rattle.fk_follow.specs.Services.{kept_tell, post_after_step, push_at, stage_post, stage_table, table_after_step, taken, told}
 use Rattle.fk_wire.specs.declared.message.Tell.{Tell}
 use Rattle.fk_law_tree.proofs.Lists.{ordered_has}
@@ -29,8 +29,7 @@ use Rattle.fk_stand.specs.Posts.{post_after}
 use Rattle.fk_stand.specs.Tables.{table_after}
 use Rattle.fk_spec.specs.Plan.{Plan}
 use Rattle.fk_spec.specs.Start.{Follows, clock_of, request_of, task_of}
-use Rattle.fk_spec.specs.Locks as locks
-use Rattle.fk_spec.specs.Locks.{granted, loss_of}
+use Rattle.fk_spec.specs.Locks.{granted}
 use Rattle.fk_spec.specs.Follower as stage
 use Rattle.fk_spec.specs.Follower.{Follower, Stage, ack_op, commit_locked, refuse_locked}
 use Rattle.fk_spec.specs.Function.{Following, follower_word, place_of}
@@ -41,6 +40,7 @@ use Rattle.fk_agree.specs.Stored.{LeavesStore}
 use Rattle.fk_agree.specs.Watched.{LeavesWatches}
 use Rattle.fk_agree.proofs.Committing.{commit_is_written}
 use Rattle.fk_agree.proofs.Granting.{grant_is_written, records_stay}
+use Rattle.fk_agree.proofs.Held.{left_table, settled_if, settled_so, settled_table}
 use Rattle.fk_agree.proofs.Putting.{store_stays}
 use Rattle.fk_agree.proofs.Serving.{LeavesPost, fault_leaves, post_left, post_stands, services_stay, table_stands}
 use Rattle.fk_agree.proofs.Settling.{expired_is_granted_nothing, loss_is_written, refusal_is_written}
@@ -49,12 +49,8 @@ use Rattle.fk_agree_follow.specs.Followers.{FollowerFaultIsWritten, FollowerIsWr
 use Rattle.fk_agree_follow.proofs.Making.{ack_all, by_settling, either, lock_all, made_spares, session_all, stage_makes}
 use Rattle.fk_agree_follow.proofs.Operating.{Reads, calm_follower, follower_faults, its_reads, its_task}
 use Rattle.fk_agree_follow.proofs.Posting.{pushed_post, removed_post, replied_post}
-use Rattle.fk_agree_follow.proofs.Reading.{settled_if, settled_so}
 
 -- The table. --------------------------------------------------------------------------------------------
-
-left_table : (p : Plan) (faults : ℕ) (e : Entry) (h : List Entry) (o : Op) → e.op ≡ o → LeavesRecords o → table_after p h faults ≡ table_after p (e ∷ h) faults
-left_table p faults e h o g k = sym (records_stay p faults e h (subst LeavesRecords (sym g) k))
 
 taken_table : (p : Plan) (n faults : ℕ) (path : PathNames) (e : Entry) (h : List Entry) → IsHistory p (e ∷ h) → e.op ≡ lock_op (clock_of h) p.lock n path (lock_of (table_after p h faults) path) → taken path n (clock_of h) p.lock (table_after p h faults) ≡ table_after p (e ∷ h) faults
 taken_table p n faults path e h l g = by_free (is_free (clock_of h) p.lock (lock_of (table_after p h faults) path)) g
@@ -62,13 +58,6 @@ taken_table p n faults path e h l g = by_free (is_free (clock_of h) p.lock (lock
     by_free : (b : Bool) → e.op ≡ (if b then op.LockOk n path else op.LockBusy n path (lock_of (table_after p h faults) path).inv (lock_of (table_after p h faults) path).moment) → (if b then written (write.Grant path n (clock_of h)) (table_after p h faults) else table_after p h faults) ≡ table_after p (e ∷ h) faults
     by_free true f = grant_is_written p n faults path e h l f
     by_free false f = left_table p faults e h (op.LockBusy n path (lock_of (table_after p h faults) path).inv (lock_of (table_after p h faults) path).moment) f tt
-
--- a transaction that settles, by what its line says
-settled_table : (p : Plan) (faults : ℕ) (e : Entry) (h : List Entry) (b : Bool) (o : Option held.Passed) (f : Option locks.Passed → Op) (s : Op) (z : table.Meaning) → e.op ≡ (if b then f (option_map passed_as o) else s)
-    → (e.op ≡ f None → z ≡ table_after p (e ∷ h) faults) → LeavesRecords s → ((x : locks.Passed) → LeavesRecords (f (Some x))) → settled_if b o z (table_after p h faults) ≡ table_after p (e ∷ h) faults
-settled_table p faults e h true None f s z g a b c = a g
-settled_table p faults e h true (Some x) f s z g a b c = left_table p faults e h (f (Some (passed_as x))) g (c (passed_as x))
-settled_table p faults e h false o f s z g a b c = left_table p faults e h s g b
 
 -- one without locks
 bare_table : (p : Plan) (faults : ℕ) (e : Entry) (h : List Entry) (b : Bool) (x s : Op) (z : table.Meaning) → e.op ≡ (if b then x else s) → (e.op ≡ x → z ≡ table_after p (e ∷ h) faults) → LeavesRecords s → settled_if b None z (table_after p h faults) ≡ table_after p (e ∷ h) faults

@@ -1,17 +1,14 @@
 -- What the services hold after an operation of a watch function.
 use Rattle.std.specs.Prelude.{if◌then◌else◌, option_and_then, option_map}
-use Rattle.std.proofs.Common.{◌≡◌, ℕ, Bool, true, false, List, ◌∷◌, refl, sym, ◌∙◌, ap, subst, Option, Some, None}
+use Rattle.std.proofs.Common.{◌≡◌, ℕ, Bool, true, false, List, ◌∷◌, refl, sym, ◌∙◌, ap, subst, Some}
 use Rattle.std.proofs.lemmas.Bool.{eq-eqb, false≢true}
 use Rattle.fk_base.specs.Faults.{one_more}
 use Rattle.fk_print.specs.declared.entry.Entry.{Entry}
 use Rattle.fk_print.specs.declared.op.Op.TheVariants as op
-use Rattle.fk_queue.specs.Answers.{ack_of, after_ack}
-use Rattle.fk_queue.specs.Answers as answers
 use Rattle.fk_queue.specs.Lanes.{same_lane}
 use Rattle.fk_queue.specs.Letters.{head_number}
 use Rattle.fk_queue.specs.Meaning as post
 use Rattle.fk_queue.specs.Meaning.{popped, pushed}
-use Rattle.fk_queue.specs.declared.answer.Ack.TheVariants as ack
 use Rattle.fk_queue.specs.declared.lane.Lane.{Lane}
 use Rattle.fk_queue.specs.declared.lane.Lane.TheVariants as lane
 use Rattle.fk_watch.specs.Meaning as watches
@@ -20,7 +17,7 @@ use Rattle.fk_watch.specs.Telling.{Meaning, calm_op, post_after_step, stage_post
 use Rattle.fk_wire.specs.TellText.{tell_text}
 use Rattle.fk_wire.specs.declared.version.Version.TheVariants as version
 use Rattle.fk_stand.specs.Messages.{tell_of}
-use Rattle.fk_stand.specs.Posts.{lane_after, letter_in, post_after, removes}
+use Rattle.fk_stand.specs.Posts.{lane_after, letter_in, post_after}
 use Rattle.fk_stand.specs.Stores.{watches_after}
 use Rattle.fk_spec.specs.Plan.{Plan, is_client}
 use Rattle.fk_spec.specs.Start.{Notifies, task_of, when}
@@ -38,9 +35,9 @@ use Rattle.fk_agree.specs.Records.{LeavesRecords}
 use Rattle.fk_agree.specs.Stored.{LeavesStore}
 use Rattle.fk_agree.specs.Watched.{LeavesWatches}
 use Rattle.fk_agree.proofs.Granting.{records_stay}
-use Rattle.fk_agree.proofs.Posting.{head_is_popped, letter_is_pushed}
+use Rattle.fk_agree.proofs.Posting.{letter_is_pushed}
 use Rattle.fk_agree.proofs.Putting.{store_stays}
-use Rattle.fk_agree.proofs.Serving.{fault_leaves, other_number, post_left, post_stands, services_stay, watches_stand}
+use Rattle.fk_agree.proofs.Serving.{acked_post, fault_leaves, other_number, post_left, post_stands, services_stay, watches_stand}
 use Rattle.fk_agree.proofs.Watching.{told_is_written, watches_stay}
 use Rattle.fk_agree_notify.specs.Tellers.{TellerFaultIsWritten, TellerIsWritten}
 use Rattle.fk_agree_notify.proofs.Fired.{StageFired, fired_of_client, fired_where_it_stands}
@@ -70,21 +67,12 @@ acked_elsewhere p n w h lane.Watch t e = absurd (false≢true (sym e))
 acked_elsewhere p n w h (lane.Session c) t e = record { none = refl; kept = ap (follows_session c) t }
 acked_elsewhere p n w h (lane.Inbox c) t e = record { none = refl; kept = refl }
 
-acked_post : (p : Plan) (n w faults : ℕ) (e : Entry) (h : List Entry) → e.op ≡ op.AckOk n → task_of n h ≡ Some (Notifies w) → popped lane.Watch (post_after p h faults) ≡ post_after p (e ∷ h) faults
-acked_post p n w faults e h g t = head_is_popped p faults lane.Watch e h refl (ap (letter_in p lane.Watch h) g) (ap (removes lane.Watch h) g ∙ ap notifies t) (λ q x. subst (LeavesLane p q h) (sym g) (acked_elsewhere p n w h q t x))
-
 post_case : (p : Plan) (n faults : ℕ) (e : Entry) (h : List Entry) (m : Meaning) (x : Stage) → IsHistory p h → task_of n h ≡ Some (Notifies m.number) → m.inv ≡ n → StageFired p h m.tx x → e.op ≡ calm_op (post_after p h faults) m x → stage_post (post_after p h faults) m x ≡ post_after p (e ∷ h) faults
 post_case p n faults e h m (teller.Tell f fs) l t k i g = told_post p m.inv f.watch.session f.watch.id faults e h f g (fired_of_client p f.watch.id h f l i.0.0) i.0.0
 post_case p n faults e h m teller.Told l t k i g = sym (post_left p faults e h (op.Told m.inv m.tx) g tt)
-post_case p n faults e h m teller.Ack l t k i g = by_head (is_number m.number (head_number (lane_after p lane.Watch h))) refl g
-  where
-    same : (o : Option ℕ) → answers.is_number m.number o ≡ is_number m.number o
-    same None = refl
-    same (Some j) = refl
-
-    by_head : (b : Bool) → is_number m.number (head_number (lane_after p lane.Watch h)) ≡ b → e.op ≡ (if b then op.AckOk m.inv else op.AckGone m.inv) → after_ack (post_after p h faults) lane.Watch (ack_of (post_after p h faults) lane.Watch m.number) ≡ post_after p (e ∷ h) faults
-    by_head true a b = ap (λ z. after_ack (post_after p h faults) lane.Watch (if z then ack.Acked else ack.NotHead)) (same (head_number (lane_after p lane.Watch h)) ∙ a) ∙ acked_post p m.inv m.number faults e h b (subst (λ z. task_of z h ≡ Some (Notifies m.number)) (sym k) t)
-    by_head false a b = ap (λ z. after_ack (post_after p h faults) lane.Watch (if z then ack.Acked else ack.NotHead)) (same (head_number (lane_after p lane.Watch h)) ∙ a) ∙ sym (post_left p faults e h (op.AckGone m.inv) b tt)
+post_case p n faults e h m teller.Ack l t k i g =
+    let u : task_of m.inv h ≡ Some (Notifies m.number) = subst (λ z. task_of z h ≡ Some (Notifies m.number)) (sym k) t in
+    acked_post p lane.Watch m.inv m.number faults e h refl refl (ap notifies u) (λ q x. acked_elsewhere p m.inv m.number h q u x) g
 post_case p n faults e h m teller.Ended l t k i g = sym (post_left p faults e h op.Idle g tt)
 
 -- The table of watches. ---------------------------------------------------------------------------------

@@ -1,0 +1,11 @@
+mod Given
+mod Going
+mod Making
+mod Needs
+mod Pending
+mod Posted
+mod Pushed
+mod Requested
+mod Starting
+mod Tabled
+mod Written
