@@ -13,7 +13,7 @@ use Rattle.fk_watch.specs.Meaning as watches
 use Rattle.fk_watch.specs.Meaning.{Watches}
 use Rattle.fk_wire.specs.declared.message.Tell.{Tell}
 use Rattle.fk_wire.specs.declared.message.Tell.TheVariants as tell
-use Rattle.fk_stand.specs.Messages.{done_tell, kept_tell, lost_tell, push_message_of, tell_of}
+use Rattle.fk_stand.specs.Messages.{done_tell, kept_tell, push_message_of, tell_of}
 use Rattle.fk_stand.specs.Posts.{post_after}
 use Rattle.fk_stand.specs.Stores.{store_after, watches_after}
 use Rattle.fk_stand.specs.Tables.{table_after}
@@ -93,7 +93,7 @@ kept_known p k o h ms None i = absurd i
 kept_known p k (Committed tx) h ms (Some t) i = absurd (none_some t i)
 kept_known p k (Refused code place at) h ms (Some t) i = sym (ap (λ z. told_known (outcome_told (Some z))) (some_same (tell.Refused k code at place) t i))
 kept_known p k (Passed None) h ms (Some t) i = absurd (none_some t i)
-kept_known p k (Passed (Some loss)) h ms (Some t) i = sym (ap (λ z. told_known (outcome_told (Some z))) (some_same (lost_tell k loss) t i))
+kept_known p k (Passed (Some loss)) h ms (Some t) i = sym (ap (λ z. told_known (outcome_told (Some z))) (some_same (tell.Lost k loss.path loss.own loss.found loss.moment) t i))
 
 -- the rules' client comes to the same by what its message tells and by what the rules read there
 pub told_fits : (p : Plan) (c : ℕ) (h : List Entry) (told : Option Tell) (o : Op) (y : Client Sent) → IsDue p h o → client_in o ≡ Some c → FirstTells p h (inbox_of p c h) told

@@ -17,7 +17,8 @@ use Rattle.fk_print.specs.declared.op.Op.TheVariants as op
 use Rattle.fk_settle.specs.Transaction.{applied_as}
 use Rattle.fk_wire.specs.declared.message.Pushed.{Pushed}
 use Rattle.fk_wire.specs.declared.message.Tell.{Tell}
-use Rattle.fk_stand.specs.Messages.{done_tell, kept_tell, lost_tell, push_message_of}
+use Rattle.fk_wire.specs.declared.message.Tell.TheVariants as tell
+use Rattle.fk_stand.specs.Messages.{done_tell, kept_tell, push_message_of}
 use Rattle.fk_spec.specs.Plan.{Plan, Ask, Want, Unfit, Writes, Reads, asks_in, nth}
 use Rattle.fk_spec.specs.Start as start
 use Rattle.fk_spec.specs.Start.{pushed_of, request_from, request_in, request_of, written}
@@ -197,7 +198,7 @@ kept_is_true p c k h o ms None x i = absurd i
 kept_is_true p c k h (Committed tx) ms (Some t) x i = absurd (none_some t i)
 kept_is_true p c k h (Refused code place at) ms (Some t) x i = λ r e. subst (λ z. WouldTell p h (asks_in p c) k z x.sent) (some_same (outcome.Refused code at place) r (ap (λ w. outcome_told (Some w)) (some_same _ t i) ∙ e)) (would p h (asks_in p c) k (outcome.Refused code at place) x.sent (λ p h a. tt))
 kept_is_true p c k h (Passed None) ms (Some t) x i = absurd (none_some t i)
-kept_is_true p c k h (Passed (Some loss)) ms (Some t) x i = λ r e. subst (λ z. WouldTell p h (asks_in p c) k z x.sent) (some_same (outcome.Lost loss.path loss.own loss.found loss.moment) r (ap (λ w. outcome_told (Some w)) (some_same (lost_tell k loss) t i) ∙ e)) (would p h (asks_in p c) k (outcome.Lost loss.path loss.own loss.found loss.moment) x.sent (λ p h a. tt))
+kept_is_true p c k h (Passed (Some loss)) ms (Some t) x i = λ r e. subst (λ z. WouldTell p h (asks_in p c) k z x.sent) (some_same (outcome.Lost loss.path loss.own loss.found loss.moment) r (ap (λ w. outcome_told (Some w)) (some_same (tell.Lost k loss.path loss.own loss.found loss.moment) t i) ∙ e)) (would p h (asks_in p c) k (outcome.Lost loss.path loss.own loss.found loss.moment) x.sent (λ p h a. tt))
 
 pub acted_tell : (p : Plan) (c : ℕ) (h : List Entry) (told : Option Tell) (x : Client Unanswered) (o : Op) → ReadsAreReads p → IsHistory p h → client_known x ≡ client_of p c h → IsDue p h o → client_in o ≡ Some c → FirstTells p h (inbox_of p c h) told → AllTell p h (asks_in p c) x.sent
     → AllTell p h (asks_in p c) (acted by_outcome (told_sight p c h told) (outcome_told told) o x).sent
