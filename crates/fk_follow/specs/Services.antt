@@ -25,7 +25,7 @@ use Rattle.fk_spec.specs.Follower as stage
 use Rattle.fk_follow.specs.Meaning.{Meaning}
 use Rattle.fk_follow.specs.Operation.{locked}
 use Rattle.fk_settle.specs.Transaction.{committed, refuse_writes, settle_conds, transacted}
-use Rattle.fk_stand.specs.Messages.{kept_tell, push_with}
+use Rattle.fk_stand.specs.Messages.{outcome_tell, push_with}
 
 -- ---- messages
 
@@ -52,7 +52,7 @@ stage_post q now m (stage.Refuse r at) = q
 stage_post q now m (stage.Expire at) = q
 stage_post q now m (stage.Commit tx) = q
 stage_post q now m stage.Lost = q
-stage_post q now m stage.Reply = told m.follower.session (kept_tell m.follower.k m.outcome) q
+stage_post q now m stage.Reply = told m.follower.session (outcome_tell m.follower.k m.outcome) q
 stage_post q now m stage.Ack = acknowledged (lane.Session m.follower.session) m.follower.k q
 stage_post q now m stage.Ended = q
 

@@ -17,6 +17,7 @@ use Rattle.fk_wire.specs.declared.message.Tell.{Tell}
 use Rattle.fk_wire.specs.declared.message.Tell.TheVariants as tell
 use Rattle.fk_spec.specs.Plan.{Plan}
 use Rattle.fk_spec.specs.Start.{Origin, clock_of, or_else, request_from, request_of, seen_from, sent_in}
+use Rattle.fk_spec.specs.Settling as settling
 use Rattle.fk_spec.specs.Stored.{owned_among}
 use Rattle.fk_spec.specs.Watches.{firing_of, swept_by}
 use Rattle.fk_spec.specs.Lanes as lanes
@@ -89,16 +90,20 @@ abbrev pub done_tell : ℕ → ℕ → Pushed → Tell
 done_tell k tx x = tell.Done k tx x.name x.version x.made
 
 -- a follower's reply tells the outcome that was kept; a commit is told by a leader
-abbrev pub kept_tell : ℕ → Outcome → Option Tell
-kept_tell k kept.Nothing = None
-kept_tell k (kept.Applied tx) = None
-kept_tell k (kept.Refused code at place) = Some (tell.Refused k code at place)
-kept_tell k (kept.Lost path own found moment) = Some (tell.Lost k path own found moment)
+abbrev pub outcome_tell : ℕ → Outcome → Option Tell
+outcome_tell k kept.Nothing = None
+outcome_tell k (kept.Applied tx) = None
+outcome_tell k (kept.Refused code at place) = Some (tell.Refused k code at place)
+outcome_tell k (kept.Lost path own found moment) = Some (tell.Lost k path own found moment)
+
+-- the same of an outcome as the rules have it
+abbrev pub kept_tell : ℕ → settling.Outcome → Option Tell
+kept_tell k o = outcome_tell k (kept_as (Some o))
 
 abbrev pub tell_of : Plan → List Entry → lanes.Message → Option Tell
 tell_of p h (lanes.Done k tx) = option_map (done_tell k tx) (push_message_of p tx h)
 tell_of p h (lanes.Evicted k tx) = Some (tell.Evicted k tx)
-tell_of p h (lanes.Kept k outcome) = kept_tell k (kept_as (Some outcome))
+tell_of p h (lanes.Kept k outcome) = kept_tell k outcome
 tell_of p h (lanes.Watch id) = option_map watch_tell (firing_of p id h)
 tell_of p h (lanes.Ping n) = Some (tell.Ping n)
 
