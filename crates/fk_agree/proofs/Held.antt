@@ -24,20 +24,16 @@ use Rattle.fk_agree.proofs.Granting.{records_stay}
 use Rattle.fk_agree.proofs.Locking.{holds_the_same, lock_is}
 use Rattle.fk_agree.proofs.Serving.{session_is}
 
--- a path whose lock passed on, as a history says it
-abbrev pub passed_as : held.Passed → rules.Passed
-passed_as x = record { path = x.path; holder = x.holder; moment = x.moment }
-
-found_so : (h : List Entry) (q : PathNames) (o : Option Grant) → passed_as (held.passed_on q (lock_from h o)) ≡ passed_on q o
+found_so : (h : List Entry) (q : PathNames) (o : Option Grant) → (held.passed_on q (lock_from h o)) ≡ passed_on q o
 found_so h q None = refl
 found_so h q (Some g) = refl
 
 -- the first lock that isn't held any more
-pub passed_same : (p : Plan) (n faults : ℕ) (h : List Entry) (ps : List PathNames) → option_map passed_as (held.first_passed n (table_after p h faults) ps) ≡ first_passed n h ps
+pub passed_same : (p : Plan) (n faults : ℕ) (h : List Entry) (ps : List PathNames) → (held.first_passed n (table_after p h faults) ps) ≡ first_passed n h ps
 passed_same p n faults h [] = refl
 passed_same p n faults h (q ∷ ps) =
-    ap (λ b. option_map passed_as (cond b (held.first_passed n (table_after p h faults) ps) (Some (held.passed_on q (lock_of (table_after p h faults) q))))) (holds_the_same p n h faults q)
-    ∙ by_test (is_held_by n h (last_grant q h)) (λ b. option_map passed_as (cond b (held.first_passed n (table_after p h faults) ps) (Some (held.passed_on q (lock_of (table_after p h faults) q)))) ≡ cond b (first_passed n h ps) (Some (passed_on q (last_grant q h)))) (λ _. passed_same p n faults h ps) (λ _. ap Some (ap (λ l. passed_as (held.passed_on q l)) (lock_is p h faults q) ∙ found_so h q (last_grant q h)))
+    ap (λ b. (cond b (held.first_passed n (table_after p h faults) ps) (Some (held.passed_on q (lock_of (table_after p h faults) q))))) (holds_the_same p n h faults q)
+    ∙ by_test (is_held_by n h (last_grant q h)) (λ b. (cond b (held.first_passed n (table_after p h faults) ps) (Some (held.passed_on q (lock_of (table_after p h faults) q)))) ≡ cond b (first_passed n h ps) (Some (passed_on q (last_grant q h)))) (λ _. passed_same p n faults h ps) (λ _. ap Some (ap (λ l. (held.passed_on q l)) (lock_is p h faults q) ∙ found_so h q (last_grant q h)))
 
 pub settled_is : (p : Plan) (c faults : ℕ) (h : List Entry) → is_client p c ≡ true → (session_of (table_after p h faults) c).settled ≡ settled_of c h
 settled_is p c faults h i = ap (λ r. r.settled) (session_is p c h (table_after p h faults) refl i)
@@ -45,7 +41,7 @@ settled_is p c faults h i = ap (λ r. r.settled) (session_is p c h (table_after 
 -- What comes of such a transaction. ---------------------------------------------------------------------
 
 -- it is made where its request is next and no lock passed on
-abbrev pub settled_if : {A : Type 0} → Bool → Option held.Passed → A → A → A
+abbrev pub settled_if : {A : Type 0} → Bool → Option rules.Passed → A → A → A
 settled_if true None a b = a
 settled_if true (Some x) a b = b
 settled_if false o a b = b
@@ -76,8 +72,8 @@ pub left_table : (p : Plan) (faults : ℕ) (e : Entry) (h : List Entry) (o : Op)
 left_table p faults e h o g k = sym (records_stay p faults e h (subst LeavesRecords (sym g) k))
 
 -- by what its line says
-pub settled_table : (p : Plan) (faults : ℕ) (e : Entry) (h : List Entry) (b : Bool) (o : Option held.Passed) (f : Option rules.Passed → Op) (s : Op) (z : Meaning) → e.op ≡ (if b then f (option_map passed_as o) else s)
+pub settled_table : (p : Plan) (faults : ℕ) (e : Entry) (h : List Entry) (b : Bool) (o : Option rules.Passed) (f : Option rules.Passed → Op) (s : Op) (z : Meaning) → e.op ≡ (if b then f (o) else s)
     → (e.op ≡ f None → z ≡ table_after p (e ∷ h) faults) → LeavesRecords s → ((x : rules.Passed) → LeavesRecords (f (Some x))) → settled_if b o z (table_after p h faults) ≡ table_after p (e ∷ h) faults
 settled_table p faults e h true None f s z g a b c = a g
-settled_table p faults e h true (Some x) f s z g a b c = left_table p faults e h (f (Some (passed_as x))) g (c (passed_as x))
+settled_table p faults e h true (Some x) f s z g a b c = left_table p faults e h (f (Some (x))) g (c (x))
 settled_table p faults e h false o f s z g a b c = left_table p faults e h s g b

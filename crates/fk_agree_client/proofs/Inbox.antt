@@ -18,7 +18,6 @@ use Rattle.fk_wire.specs.declared.message.Tell.TheVariants as tell
 use Rattle.fk_wire.specs.declared.version.Version.TheVariants as version
 use Rattle.fk_wire.proofs.TellBack.{tells}
 use Rattle.fk_wire.proofs.Texts.{one_message}
-use Rattle.fk_stand.specs.Tables.{kept_as}
 use Rattle.fk_stand.specs.Messages.{done_tell, kept_tell, push_here, push_message_of, tell_message, tell_of}
 use Rattle.fk_stand.specs.Posts.{lane_after, lane_step, letter_in, removes}
 use Rattle.fk_spec.specs.Plan.{Plan}
@@ -73,7 +72,7 @@ all_stay p e h (x ∷ xs) (m ∷ ms) l s = (says_stays p e h x m l s.0, all_stay
 
 -- What is posted tells something. ------------------------------------------------------------------------
 
-kept_tells : (p : Plan) (c k : ℕ) (h : List Entry) (o : Outcome) → IsHistory p h → outcome_of c k h ≡ Some o → (IsApplied (Some o) → ⊥) → (t : Tell) × (kept_tell k (kept_as (Some o)) ≡ Some t)
+kept_tells : (p : Plan) (c k : ℕ) (h : List Entry) (o : Outcome) → IsHistory p h → outcome_of c k h ≡ Some o → (IsApplied (Some o) → ⊥) → (t : Tell) × (kept_tell k o ≡ Some t)
 kept_tells p c k h (Committed tx) l q n = absurd (n tt)
 kept_tells p c k h (Refused code place at) l q n = (tell.Refused k code at place, refl)
 kept_tells p c k h (Passed None) l q n = absurd (lost_has_a_loss p c k h l q)

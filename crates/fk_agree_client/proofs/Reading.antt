@@ -13,7 +13,6 @@ use Rattle.fk_queue.specs.Letters.{LaneState, empty_lane}
 use Rattle.fk_watch.specs.Notes.{watch_tell}
 use Rattle.fk_wire.specs.declared.message.Tell.{Tell}
 use Rattle.fk_wire.specs.declared.message.Tell.TheVariants as tell
-use Rattle.fk_stand.specs.Tables.{kept_as}
 use Rattle.fk_stand.specs.Messages.{done_tell, kept_tell, push_message_of, tell_of}
 use Rattle.fk_stand.specs.Posts.{lane_after, post_after}
 use Rattle.fk_stand.specs.Stores.{store_after, watches_after}
@@ -61,7 +60,7 @@ fired_number p id (e ∷ h) f q = by_line (firing_in p id h e.op) refl q (λ r. 
     by_line None a q r = r q
     by_line (Some g) a q r = fired_here p id h f e.op (a ∙ q)
 
-kept_back : (k : ℕ) (o : Outcome) (t : Tell) → kept_tell k (kept_as (Some o)) ≡ Some t → message_told t ≡ Kept k o
+kept_back : (k : ℕ) (o : Outcome) (t : Tell) → kept_tell k o ≡ Some t → message_told t ≡ Kept k o
 kept_back k (Committed tx) t q = absurd (none_some t q)
 kept_back k (Refused code place at) t q = sym (ap message_told (some_same (tell.Refused k code at place) t q))
 kept_back k (Passed None) t q = absurd (none_some t q)

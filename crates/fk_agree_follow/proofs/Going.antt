@@ -20,8 +20,9 @@ use Rattle.fk_follow.specs.Fit.{IsReadAt}
 use Rattle.fk_follow.specs.Meaning as follow
 use Rattle.fk_follow.specs.Meaning.{Meaning, Own, is_end, is_ended}
 use Rattle.fk_follow.specs.Next.{granted_at, next_with}
-use Rattle.fk_follow.specs.Operation.{calm_op, lock_passed, locked, step_op}
-use Rattle.fk_follow.specs.Services.{push_with}
+use Rattle.fk_settle.specs.Held as settle
+use Rattle.fk_follow.specs.Operation.{calm_op, locked, step_op}
+use Rattle.fk_stand.specs.Messages.{push_with}
 use Rattle.fk_wire.specs.SentText.{IsSent}
 use Rattle.fk_stand.specs.Messages.{push_message_of}
 use Rattle.fk_stand.specs.Posts.{post_after}
@@ -290,9 +291,9 @@ given_at p n a b h m owned stage.Owned l i g = owned_same p m.follower.session a
 given_at p n a b h m owned stage.Session l i g = session_all (OwnedSo p h m owned) m.inv m.follower.k (session_of (table_after p h a) m.follower.session) tt tt tt tt tt
 given_at p n a b h m owned (stage.Lock path) l i g = lock_all (OwnedSo p h m owned) (clock_of h) p.lock m.inv path (lock_of (table_after p h a) path) tt tt
 given_at p n a b h m owned stage.Push l i g = tt
-given_at p n a b h m owned (stage.Refuse r at) l i g = by_settling (OwnedSo p h m owned) ((session_of (table_after p h a) m.follower.session).settled + 1 == m.follower.k) (lock_passed m.inv (table_after p h a) (locked m.follower)) (refuse_locked m.inv r at) (op.RefuseSettled m.inv r.code r.place at (session_of (table_after p h a) m.follower.session).settled) tt tt (λ x. tt)
+given_at p n a b h m owned (stage.Refuse r at) l i g = by_settling (OwnedSo p h m owned) ((session_of (table_after p h a) m.follower.session).settled + 1 == m.follower.k) (settle.first_passed m.inv (table_after p h a) (locked m.follower)) (refuse_locked m.inv r at) (op.RefuseSettled m.inv r.code r.place at (session_of (table_after p h a) m.follower.session).settled) tt tt (λ x. tt)
 given_at p n a b h m owned (stage.Expire at) l i g = either (OwnedSo p h m owned) ((session_of (table_after p h a) m.follower.session).settled + 1 == m.follower.k) (op.RefuseOk m.inv code.SessionExpired 0 at) (op.RefuseSettled m.inv code.SessionExpired 0 at (session_of (table_after p h a) m.follower.session).settled) tt tt
-given_at p n a b h m owned (stage.Commit tx) l i g = by_settling (OwnedSo p h m owned) ((session_of (table_after p h a) m.follower.session).settled + 1 == m.follower.k) (lock_passed m.inv (table_after p h a) (locked m.follower)) (commit_locked m.inv tx) (op.CommitSettled m.inv tx (session_of (table_after p h a) m.follower.session).settled) tt tt (λ x. tt)
+given_at p n a b h m owned (stage.Commit tx) l i g = by_settling (OwnedSo p h m owned) ((session_of (table_after p h a) m.follower.session).settled + 1 == m.follower.k) (settle.first_passed m.inv (table_after p h a) (locked m.follower)) (commit_locked m.inv tx) (op.CommitSettled m.inv tx (session_of (table_after p h a) m.follower.session).settled) tt tt (λ x. tt)
 given_at p n a b h m owned stage.Lost l i g = either (OwnedSo p h m owned) ((session_of (table_after p h a) m.follower.session).settled + 1 == m.follower.k) (op.LostOk m.inv) (op.LostSettled m.inv (session_of (table_after p h a) m.follower.session).settled) tt tt
 given_at p n a b h m owned stage.Reply l i g = tt
 given_at p n a b h m owned stage.Ack l i g = ack_all (OwnedSo p h m owned) m.inv m.follower.k (head_number ((post_after p h b).lanes (lane.Session m.follower.session))) tt tt

@@ -20,7 +20,8 @@ use Rattle.fk_store.specs.declared.outcome.Outcome.TheVariants as kept
 use Rattle.fk_store.specs.declared.session_record.SessionRecord.{SessionRecord}
 use Rattle.fk_tree.specs.Check.{Refusal}
 use Rattle.fk_follow.specs.Meaning.{is_end}
-use Rattle.fk_follow.specs.Operation.{calm_op, lock_op, lock_passed, locked, session_op, settled_op}
+use Rattle.fk_settle.specs.Held as settle
+use Rattle.fk_follow.specs.Operation.{calm_op, lock_op, locked, session_op, settled_op}
 use Rattle.fk_spec.specs.Follower as stage
 use Rattle.fk_spec.specs.Follower.{Follower, Stage, ack_op, commit_locked, is_number, refuse_locked, unsettled_op}
 use Rattle.fk_spec.specs.Function.{actor}
@@ -126,9 +127,9 @@ stage_makes t q now time owned n f stage.Session e = session_all (Made n) n f.k 
 stage_makes t q now time owned n f stage.Owned e = refl
 stage_makes t q now time owned n f (stage.Lock path) e = lock_all (Made n) now time n path (lock_of t path) refl refl
 stage_makes t q now time owned n f stage.Push e = refl
-stage_makes t q now time owned n f (stage.Refuse r at) e = refuse_made n r at (lock_passed n t (locked f)) ((session_of t f.session).settled + 1 == f.k) (session_of t f.session).settled
+stage_makes t q now time owned n f (stage.Refuse r at) e = refuse_made n r at (settle.first_passed n t (locked f)) ((session_of t f.session).settled + 1 == f.k) (session_of t f.session).settled
 stage_makes t q now time owned n f (stage.Expire at) e = either (Made n) ((session_of t f.session).settled + 1 == f.k) (op.RefuseOk n code.SessionExpired 0 at) (op.RefuseSettled n code.SessionExpired 0 at (session_of t f.session).settled) refl refl
-stage_makes t q now time owned n f (stage.Commit tx) e = commit_made n tx (lock_passed n t (locked f)) ((session_of t f.session).settled + 1 == f.k) (session_of t f.session).settled
+stage_makes t q now time owned n f (stage.Commit tx) e = commit_made n tx (settle.first_passed n t (locked f)) ((session_of t f.session).settled + 1 == f.k) (session_of t f.session).settled
 stage_makes t q now time owned n f stage.Lost e = either (Made n) ((session_of t f.session).settled + 1 == f.k) (op.LostOk n) (op.LostSettled n (session_of t f.session).settled) refl refl
 stage_makes t q now time owned n f stage.Reply e = refl
 stage_makes t q now time owned n f stage.Ack e = ack_all (Made n) n f.k (head_number (q.lanes (lane.Session f.session))) refl refl

@@ -14,7 +14,8 @@ use Rattle.fk_store.specs.Meaning as table
 use Rattle.fk_follow.specs.Fit.{IsRead, IsReadAt}
 use Rattle.fk_follow.specs.Meaning.{Meaning, is_end, is_ended}
 use Rattle.fk_follow.specs.Operation as follow
-use Rattle.fk_follow.specs.Operation.{calm_op, is_armed, lock_passed, locked, step_op}
+use Rattle.fk_settle.specs.Held as settle
+use Rattle.fk_follow.specs.Operation.{calm_op, is_armed, locked, step_op}
 use Rattle.fk_stand.specs.Posts.{post_after}
 use Rattle.fk_stand.specs.Tables.{table_after}
 use Rattle.fk_spec.specs.Plan.{Plan, is_client}
@@ -78,7 +79,7 @@ pub record Reads (p : Plan) (n : ℕ) (h : List Entry) (f : Follower) : Type 0 w
 pub its_reads : (p : Plan) (n : ℕ) (h : List Entry) (m : Meaning) → IsHistory p h → IsFollower p n h m → Reads p n h m.follower
 its_reads p n h m l i = record { client = its_client p n h m l i; real = its_session p n h m l i; locks = locked_is p n h m.follower l i.stands }
 
-passed_is : (p : Plan) (n faults : ℕ) (h : List Entry) (f : Follower) → Reads p n h f → lock_passed n (table_after p h faults) (locked f) ≡ first_passed n h (in_path_order (granted n h))
+passed_is : (p : Plan) (n faults : ℕ) (h : List Entry) (f : Follower) → Reads p n h f → settle.first_passed n (table_after p h faults) (locked f) ≡ first_passed n h (in_path_order (granted n h))
 passed_is p n faults h f i = passed_same p n faults h (locked f) ∙ ap (first_passed n h) i.locks
 
 rule_stage : (p : Plan) (n a b : ℕ) (h : List Entry) (f : Follower) (owned : List PathNames) (x : Stage) → IsHistory p h → Reads p n h f → IsReadAt (table_after p h a) f.session owned x → calm_op (table_after p h a) (post_after p h b) (clock_of h) p.lock owned n f x ≡ follower_op p h n f x
@@ -87,11 +88,11 @@ rule_stage p n a b h f owned stage.Owned l i g = ap (λ ps. op.Owned n (length p
 rule_stage p n a b h f owned (stage.Lock path) l i g = lock_same p n a h path
 rule_stage p n a b h f owned stage.Push l i g = ap (λ j. op.Push n (j + 1)) (lanes_are_counted p h l).1.count
 rule_stage p n a b h f owned (stage.Refuse r at) l i g =
-    ap (λ s. if s + 1 == f.k then refuse_locked n r at (lock_passed n (table_after p h a) (locked f)) else op.RefuseSettled n r.code r.place at s) (settled_is p f.session a h i.client)
+    ap (λ s. if s + 1 == f.k then refuse_locked n r at (settle.first_passed n (table_after p h a) (locked f)) else op.RefuseSettled n r.code r.place at s) (settled_is p f.session a h i.client)
     ∙ ap (λ o. if settled_of f.session h + 1 == f.k then refuse_locked n r at o else op.RefuseSettled n r.code r.place at (settled_of f.session h)) (passed_is p n a h f i)
 rule_stage p n a b h f owned (stage.Expire at) l i g = ap (λ s. if s + 1 == f.k then op.RefuseOk n code.SessionExpired 0 at else op.RefuseSettled n code.SessionExpired 0 at s) (settled_is p f.session a h i.client)
 rule_stage p n a b h f owned (stage.Commit tx) l i g =
-    ap (λ s. if s + 1 == f.k then commit_locked n tx (lock_passed n (table_after p h a) (locked f)) else op.CommitSettled n tx s) (settled_is p f.session a h i.client)
+    ap (λ s. if s + 1 == f.k then commit_locked n tx (settle.first_passed n (table_after p h a) (locked f)) else op.CommitSettled n tx s) (settled_is p f.session a h i.client)
     ∙ ap (λ o. if settled_of f.session h + 1 == f.k then commit_locked n tx o else op.CommitSettled n tx (settled_of f.session h)) (passed_is p n a h f i)
 rule_stage p n a b h f owned stage.Lost l i g = ap (λ s. if s + 1 == f.k then op.LostOk n else op.LostSettled n s) (settled_is p f.session a h i.client)
 rule_stage p n a b h f owned stage.Reply l i g = refl

@@ -32,19 +32,8 @@ use Rattle.fk_spec.specs.Lanes.{follows_session, is_evict, kept_message, leads, 
 use Rattle.fk_agree.specs.Letters.{LeavesLane}
 use Rattle.fk_agree.proofs.Posting.{letter_is_pushed, post_stays}
 use Rattle.fk_agree.proofs.Serving.{acked_post, other_number}
-use Rattle.fk_agree_follow.proofs.Reading.{same_paths}
 
 -- A push. -----------------------------------------------------------------------------------------------
-
-gone_same : (f : Follower) (r : Request) → follow.gone_of f r ≡ stand.gone_of f r
-gone_same f (request.Create path bytes seq eph) = refl
-gone_same f (request.Set path bytes v) = refl
-gone_same f (request.Delete path v) = refl
-gone_same f (request.Close evict) = refl
-gone_same f (request.Multi parts) = refl
-
-pub push_same : (n moment : ℕ) (f : Follower) (r : Request) → follow.push_with n moment f r ≡ stand.push_with n moment f r
-push_same n moment f r = λ i. record (stand.push_with n moment f r) { gone = (gone_same f r) i; paths = (same_paths f.granted) i }
 
 pushed_elsewhere : (p : Plan) (n tx : ℕ) (h : List Entry) (q : Lane) → same_lane q lane.Leader ≡ false → LeavesLane p q h (op.Push n tx)
 pushed_elsewhere p n tx h lane.Leader e = absurd (false≢true (sym e))
@@ -53,23 +42,23 @@ pushed_elsewhere p n tx h (lane.Session c) e = record { none = refl; kept = refl
 pushed_elsewhere p n tx h (lane.Inbox c) e = record { none = refl; kept = refl }
 
 -- the message that its line puts into the leader's lane
-pub its_push : (p : Plan) (n tx : ℕ) (h : List Entry) (f : Follower) (r : Request) → place_of p n h ≡ Following f → request_of p f.session f.k h ≡ Some r → stand.push_message p h (op.Push n tx) ≡ Some (follow.push_with n (clock_of h) f r)
-its_push p n tx h f r b q = ap (push_by p h n) b ∙ (ap (option_map (stand.push_with n (clock_of h) f)) q ∙ ap Some (sym (push_same n (clock_of h) f r)))
+pub its_push : (p : Plan) (n tx : ℕ) (h : List Entry) (f : Follower) (r : Request) → place_of p n h ≡ Following f → request_of p f.session f.k h ≡ Some r → stand.push_message p h (op.Push n tx) ≡ Some (stand.push_with n (clock_of h) f r)
+its_push p n tx h f r b q = ap (push_by p h n) b ∙ ap (option_map (stand.push_with n (clock_of h) f)) q
 
-pub pushed_post : (p : Plan) (n tx faults : ℕ) (e : Entry) (h : List Entry) (f : Follower) (r : Request) → e.op ≡ op.Push n tx → place_of p n h ≡ Following f → request_of p f.session f.k h ≡ Some r → pushed lane.Leader (pushed_text version.Two (follow.push_with n (clock_of h) f r)) (post_after p h faults) ≡ post_after p (e ∷ h) faults
+pub pushed_post : (p : Plan) (n tx faults : ℕ) (e : Entry) (h : List Entry) (f : Follower) (r : Request) → e.op ≡ op.Push n tx → place_of p n h ≡ Following f → request_of p f.session f.k h ≡ Some r → pushed lane.Leader (pushed_text version.Two (stand.push_with n (clock_of h) f r)) (post_after p h faults) ≡ post_after p (e ∷ h) faults
 pushed_post p n tx faults e h f r g b q =
-    letter_is_pushed p faults lane.Leader (pushed_text version.Two (follow.push_with n (clock_of h) f r)) e h refl (ap (letter_in p lane.Leader h) g ∙ ap (option_map (pushed_text version.Two)) (its_push p n tx h f r b q)) (λ y x. subst (LeavesLane p y h) (sym g) (pushed_elsewhere p n tx h y x))
+    letter_is_pushed p faults lane.Leader (pushed_text version.Two (stand.push_with n (clock_of h) f r)) e h refl (ap (letter_in p lane.Leader h) g ∙ ap (option_map (pushed_text version.Two)) (its_push p n tx h f r b q)) (λ y x. subst (LeavesLane p y h) (sym g) (pushed_elsewhere p n tx h y x))
 
 -- A reply. ----------------------------------------------------------------------------------------------
 
-told_same : (p : Plan) (k : ℕ) (h : List Entry) (o : Option Outcome) → option_and_then (tell_of p h) (kept_message k o) ≡ follow.kept_tell k (kept_as o)
+told_same : (p : Plan) (k : ℕ) (h : List Entry) (o : Option Outcome) → option_and_then (tell_of p h) (kept_message k o) ≡ stand.outcome_tell k (kept_as o)
 told_same p k h None = refl
 told_same p k h (Some (Committed t)) = refl
 told_same p k h (Some (Refused cd place at)) = refl
 told_same p k h (Some (Passed None)) = refl
 told_same p k h (Some (Passed (Some x))) = refl
 
-its_reply : (p : Plan) (n c k : ℕ) (h : List Entry) → task_of n h ≡ Some (Follows c k) → letter_in p (lane.Inbox c) h (op.Reply n c k) ≡ option_map (tell_text version.Two) (follow.kept_tell k (kept_as (outcome_of c k h)))
+its_reply : (p : Plan) (n c k : ℕ) (h : List Entry) → task_of n h ≡ Some (Follows c k) → letter_in p (lane.Inbox c) h (op.Reply n c k) ≡ option_map (tell_text version.Two) (stand.outcome_tell k (kept_as (outcome_of c k h)))
 its_reply p n c k h t =
     ap (λ b. option_map (tell_text version.Two) (option_and_then (tell_of p h) (if b then reply_message (is_evict (request_of p c k h)) k (outcome_of c k h) (task_of n h) else None))) (eq-eqb c c refl)
     ∙ (ap (λ x. option_map (tell_text version.Two) (option_and_then (tell_of p h) (reply_message (is_evict (request_of p c k h)) k (outcome_of c k h) x))) t ∙ ap (option_map (tell_text version.Two)) (told_same p k h (outcome_of c k h)))
@@ -90,13 +79,13 @@ nothing_told p n c k h (lane.Inbox d) e = by_session (d == c) refl
     by_session true f = subst (λ x. LeavesLane p (lane.Inbox x) h (op.Reply n c k)) (sym (eqb-true d c f)) (record { none = e; kept = refl })
     by_session false f = replied_elsewhere p n c k h (lane.Inbox d) f
 
-pub replied_post : (p : Plan) (n c k faults : ℕ) (e : Entry) (h : List Entry) (o : store.Outcome) → e.op ≡ op.Reply n c k → is_client p c ≡ true → task_of n h ≡ Some (Follows c k) → o ≡ kept_as (outcome_of c k h) → told c (follow.kept_tell k o) (post_after p h faults) ≡ post_after p (e ∷ h) faults
-replied_post p n c k faults e h o g i t w = by_tell (follow.kept_tell k o) refl
+pub replied_post : (p : Plan) (n c k faults : ℕ) (e : Entry) (h : List Entry) (o : store.Outcome) → e.op ≡ op.Reply n c k → is_client p c ≡ true → task_of n h ≡ Some (Follows c k) → o ≡ kept_as (outcome_of c k h) → told c (stand.outcome_tell k o) (post_after p h faults) ≡ post_after p (e ∷ h) faults
+replied_post p n c k faults e h o g i t w = by_tell (stand.outcome_tell k o) refl
   where
-    its : (x : Option Tell) → follow.kept_tell k o ≡ x → letter_in p (lane.Inbox c) h (op.Reply n c k) ≡ option_map (tell_text version.Two) x
-    its x a = its_reply p n c k h t ∙ (ap (λ z. option_map (tell_text version.Two) (follow.kept_tell k z)) (sym w) ∙ ap (option_map (tell_text version.Two)) a)
+    its : (x : Option Tell) → stand.outcome_tell k o ≡ x → letter_in p (lane.Inbox c) h (op.Reply n c k) ≡ option_map (tell_text version.Two) x
+    its x a = its_reply p n c k h t ∙ (ap (λ z. option_map (tell_text version.Two) (stand.outcome_tell k z)) (sym w) ∙ ap (option_map (tell_text version.Two)) a)
 
-    by_tell : (x : Option Tell) → follow.kept_tell k o ≡ x → told c x (post_after p h faults) ≡ post_after p (e ∷ h) faults
+    by_tell : (x : Option Tell) → stand.outcome_tell k o ≡ x → told c x (post_after p h faults) ≡ post_after p (e ∷ h) faults
     by_tell None a = sym (post_stays p faults e h (λ q. subst (LeavesLane p q h) (sym g) (nothing_told p n c k h q (its None a))))
     by_tell (Some m) a = letter_is_pushed p faults (lane.Inbox c) (tell_text version.Two m) e h i (ap (letter_in p (lane.Inbox c) h) g ∙ its (Some m) a) (λ q x. subst (LeavesLane p q h) (sym g) (replied_elsewhere p n c k h q x))
 

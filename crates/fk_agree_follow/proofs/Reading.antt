@@ -15,7 +15,6 @@ use Rattle.fk_store.specs.Locks.{is_free}
 use Rattle.fk_store.specs.Meaning.{lock_of, or_no_record}
 use Rattle.fk_store.specs.declared.node_record.NodeRecord.{NodeRecord}
 use Rattle.fk_follow.specs.Operation as follow
-use Rattle.fk_follow.specs.Operation.{lock_passed, passed_as}
 use Rattle.fk_law_tree.specs.Owners.{is_owned}
 use Rattle.fk_law.proofs.Filling.{owned_has, owned_rise}
 use Rattle.fk_stand.specs.Tables.{kept_as, lock_from, session_record, table_after}
@@ -57,12 +56,8 @@ free_or_busy lock n h path (Some g) = by_test (has_released g.holder h) (λ b. (
 pub lock_same : (p : Plan) (n faults : ℕ) (h : List Entry) (path : PathNames) → follow.lock_op (clock_of h) p.lock n path (lock_of (table_after p h faults) path) ≡ follower.lock_op p.lock h n path
 lock_same p n faults h path = ap (follow.lock_op (clock_of h) p.lock n path) (lock_is p h faults path) ∙ free_or_busy p.lock n h path (last_grant path h)
 
-pub same_paths : (gs : List Granted) → follow.paths_of gs ≡ paths_of gs
-same_paths [] = refl
-same_paths (g ∷ gs) = ap (λ ps. g.path ∷ ps) (same_paths gs)
-
 pub locked_is : (p : Plan) (n : ℕ) (h : List Entry) (f : Follower) → IsHistory p h → place_of p n h ≡ Following f → follow.locked f ≡ in_path_order (granted n h)
-locked_is p n h f l b = ap in_path_order (same_paths f.granted ∙ records_are_of_its_grants p n h f l b)
+locked_is p n h f l b = ap in_path_order (records_are_of_its_grants p n h f l b)
 
 -- The nodes of a session. -------------------------------------------------------------------------------
 

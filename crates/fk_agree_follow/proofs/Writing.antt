@@ -21,8 +21,9 @@ use Rattle.fk_store.specs.Writes.{all_written, written}
 use Rattle.fk_store.specs.declared.outcome.Outcome.TheVariants as kept
 use Rattle.fk_store.specs.declared.write.Write.TheVariants as write
 use Rattle.fk_follow.specs.Meaning.{Meaning}
-use Rattle.fk_follow.specs.Operation.{calm_op, lock_op, lock_passed, locked, session_op}
-use Rattle.fk_follow.specs.Services.{kept_tell, post_after_step, push_at, stage_post, stage_table, table_after_step, taken, told}
+use Rattle.fk_follow.specs.Operation.{calm_op, lock_op, locked, session_op}
+use Rattle.fk_stand.specs.Messages.{outcome_tell}
+use Rattle.fk_follow.specs.Services.{post_after_step, push_at, stage_post, stage_table, table_after_step, taken, told}
 use Rattle.fk_wire.specs.declared.message.Tell.{Tell}
 use Rattle.fk_law_tree.proofs.Lists.{ordered_has}
 use Rattle.fk_stand.specs.Posts.{post_after}
@@ -121,9 +122,9 @@ post_case p n a b e h m owned stage.Session i r k g = left_post p b e h (session
 post_case p n a b e h m owned stage.Owned i r k g = left_post p b e h _ g tt
 post_case p n a b e h m owned (stage.Lock path) i r k g = left_post p b e h (lock_op (clock_of h) p.lock m.inv path (lock_of (table_after p h a) path)) g (lock_all LeavesPost (clock_of h) p.lock m.inv path (lock_of (table_after p h a) path) tt tt)
 post_case p n a b e h m owned stage.Push i r k g = pushed_post p m.inv (((post_after p h b).lanes lane.Leader).given + 1) b e h m.follower m.message.request g i.stands r
-post_case p n a b e h m owned (stage.Refuse r at) i q k g = left_post p b e h _ g (by_settling LeavesPost ((session_of (table_after p h a) m.follower.session).settled + 1 == m.follower.k) (lock_passed m.inv (table_after p h a) (locked m.follower)) (refuse_locked m.inv r at) (op.RefuseSettled m.inv r.code r.place at (session_of (table_after p h a) m.follower.session).settled) tt tt (λ x. tt))
+post_case p n a b e h m owned (stage.Refuse r at) i q k g = left_post p b e h _ g (by_settling LeavesPost ((session_of (table_after p h a) m.follower.session).settled + 1 == m.follower.k) (held.first_passed m.inv (table_after p h a) (locked m.follower)) (refuse_locked m.inv r at) (op.RefuseSettled m.inv r.code r.place at (session_of (table_after p h a) m.follower.session).settled) tt tt (λ x. tt))
 post_case p n a b e h m owned (stage.Expire at) i r k g = left_post p b e h _ g (either LeavesPost ((session_of (table_after p h a) m.follower.session).settled + 1 == m.follower.k) (op.RefuseOk m.inv code.SessionExpired 0 at) (op.RefuseSettled m.inv code.SessionExpired 0 at (session_of (table_after p h a) m.follower.session).settled) tt tt)
-post_case p n a b e h m owned (stage.Commit tx) i r k g = left_post p b e h _ g (by_settling LeavesPost ((session_of (table_after p h a) m.follower.session).settled + 1 == m.follower.k) (lock_passed m.inv (table_after p h a) (locked m.follower)) (commit_locked m.inv tx) (op.CommitSettled m.inv tx (session_of (table_after p h a) m.follower.session).settled) tt tt (λ x. tt))
+post_case p n a b e h m owned (stage.Commit tx) i r k g = left_post p b e h _ g (by_settling LeavesPost ((session_of (table_after p h a) m.follower.session).settled + 1 == m.follower.k) (held.first_passed m.inv (table_after p h a) (locked m.follower)) (commit_locked m.inv tx) (op.CommitSettled m.inv tx (session_of (table_after p h a) m.follower.session).settled) tt tt (λ x. tt))
 post_case p n a b e h m owned stage.Lost i r k g = left_post p b e h _ g (either LeavesPost ((session_of (table_after p h a) m.follower.session).settled + 1 == m.follower.k) (op.LostOk m.inv) (op.LostSettled m.inv (session_of (table_after p h a) m.follower.session).settled) tt tt)
 post_case p n a b e h m owned stage.Reply i r k g = replied_post p m.inv m.follower.session m.follower.k b e h m.outcome g i.reads.client i.task k
 post_case p n a b e h m owned stage.Ack i r k g = removed_post p m.inv m.follower.session m.follower.k b e h g i.reads.client i.task
@@ -193,7 +194,7 @@ failed_post p now h m f (stage.Refuse r at) = (f, refl)
 failed_post p now h m f (stage.Expire at) = (f, refl)
 failed_post p now h m f (stage.Commit tx) = (f, refl)
 failed_post p now h m f stage.Lost = (f, refl)
-failed_post p now h m f stage.Reply = told_faults p h m.follower.session f (kept_tell m.follower.k m.outcome)
+failed_post p now h m f stage.Reply = told_faults p h m.follower.session f (outcome_tell m.follower.k m.outcome)
 failed_post p now h m f stage.Ack = (one_more f, refl)
 failed_post p now h m f stage.Ended = (f, refl)
 

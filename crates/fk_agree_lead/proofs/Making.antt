@@ -22,7 +22,7 @@ use Rattle.fk_watch.specs.Sweeping.{swept_for}
 use Rattle.fk_settle.specs.Held as settle
 use Rattle.fk_lead.specs.Meaning.{Meaning, Swept, is_end, touches_of}
 use Rattle.fk_lead.specs.Operation as lead
-use Rattle.fk_lead.specs.Operation.{calm_op, is_armed, passed_as, step_op}
+use Rattle.fk_lead.specs.Operation.{calm_op, is_armed, step_op}
 use Rattle.fk_lead.specs.Sweeping.{AreSwept, IsSweepOf, given_at, swept_at}
 use Rattle.fk_stand.specs.Standing.{Standing}
 use Rattle.fk_stand.specs.Stores.{watches_after}
@@ -76,7 +76,7 @@ locked P n t (Some x) i j = j x.path x.holder x.moment
 -- so it holds of the one that it makes
 pub may : (P : Op → Type 0) (t : table.Meaning) (q : post.Meaning) (w : watches.Watches) (u : user.Meaning) (s : Swept) (m : Meaning) (x : Stage) → May P m x → P (calm_op t q w u s m x)
 may P t q w u s m leader.Commit i =
-    let passed = option_map passed_as (settle.first_passed m.message.inv t (in_path_order m.message.paths)) in
+    let passed = (settle.first_passed m.message.inv t (in_path_order m.message.paths)) in
     let settled = (session_of t m.message.session).settled in
     either P (settled + 1 == m.message.k) (commit_locked m.inv m.tx passed) (op.CommitSettled m.inv m.tx settled) (locked P m.inv m.tx passed i.0 i.2) (i.1 settled)
 may P t q w u s m leader.Pending i = either P (lead.is_pending m.tx (session_of t m.message.session).pending) (op.PendingYes m.inv m.tx) (op.PendingNo m.inv m.tx) i.0 i.1
@@ -142,9 +142,9 @@ settled_found : (p : Plan) (h : List Entry) (m : Meaning) (t : table.Meaning) �
 settled_found p h m t s x = ap (λ z. (session_of t z).settled) x.tells.session ∙ ap (λ z. z.settled) (session_is p x.session h t s x.client)
 
 -- and of its locks
-passed_found : (p : Plan) (h : List Entry) (m : Meaning) (t : table.Meaning) → t ≡ table_after p h t.faults → (x : HasPush p h m) → option_map passed_as (settle.first_passed m.message.inv t (in_path_order m.message.paths)) ≡ first_passed x.holder h (in_path_order (granted x.holder h))
+passed_found : (p : Plan) (h : List Entry) (m : Meaning) (t : table.Meaning) → t ≡ table_after p h t.faults → (x : HasPush p h m) → (settle.first_passed m.message.inv t (in_path_order m.message.paths)) ≡ first_passed x.holder h (in_path_order (granted x.holder h))
 passed_found p h m t s x =
-    ap (λ z. option_map passed_as (settle.first_passed m.message.inv z (in_path_order m.message.paths))) s
+    ap (λ z. (settle.first_passed m.message.inv z (in_path_order m.message.paths))) s
     ∙ (passed_same p m.message.inv t.faults h (in_path_order m.message.paths) ∙ (λ i. first_passed ((x.tells.inv) i) h (in_path_order ((x.tells.paths) i))))
 
 -- so its operation is found the same
