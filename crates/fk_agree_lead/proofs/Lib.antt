@@ -1,11 +1,11 @@
-mod Given
-mod Going
-mod Making
-mod Needs
-mod Pending
-mod Posted
-mod Pushed
-mod Requested
-mod Starting
-mod Tabled
-mod Written
+pub mod Given
+pub mod Going
+pub mod Making
+pub mod Needs
+pub mod Pending
+pub mod Posted
+pub mod Pushed
+pub mod Requested
+pub mod Starting
+pub mod Tabled
+pub mod Written
