@@ -1,4 +1,5 @@
-ghost use Rattle.std.specs.Prelude.{◌≡◌, ◌<◌, ◌+◌, ◌^◌, length, true, is_some, option_map, option_copied, OnSome};
+ghost use Rattle.std.specs.Prelude.{◌≡◌, not, ◌<◌, ◌+◌, ◌^◌, length, true, is_some, option_map, option_copied, OnSome};
+ghost use Rattle.fk_client.specs.Idle.{owes_none};
 ghost use Rattle.fk_client.specs.Meaning.{asks_read, is_finished, new_client, next_ask};
 ghost use Rattle.fk_spec.specs.Plan.{ask_of, asks_of, nth};
 
@@ -72,6 +73,14 @@ impl Client {
             unreachable!();
         };
         self.begun + 1
+    }
+
+    /// Whether it owes a ping its answer.
+    #[tactic(auto, unfolding(crate::specs::Standing::client_of))]
+    pub fn owes(&self) -> bool
+        ensures { result ≡ not (owes_none (client_of self.now).client.owed) }
+    {
+        self.owed.is_some()
     }
 
     /// Whether every command has been answered.

@@ -20,4 +20,5 @@ mod want;
 pub use client::Client;
 pub use knowing::{comes_to_the_same, makes_the_same_op};
 pub use reading::Reading;
+pub use taking::head_text;
 pub use unanswered::{Outcome, Unanswered};

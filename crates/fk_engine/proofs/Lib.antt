@@ -1,0 +1,13 @@
+pub mod Arming
+pub mod Choosing
+pub mod Flying
+pub mod Heading
+pub mod Leading
+pub mod Listing
+pub mod Oks
+pub mod Publications
+pub mod Reading
+pub mod Running
+pub mod Steps
+pub mod Turns
+pub mod Whole

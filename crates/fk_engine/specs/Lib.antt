@@ -1,0 +1,16 @@
+pub mod Drain
+pub mod DrainFit
+pub mod Engine
+pub mod Entries
+pub mod Events
+pub mod Fit
+pub mod Flights
+pub mod FlightsStanding
+pub mod Heads
+pub mod Machines
+pub mod Parts
+pub mod Playing
+pub mod Reads
+pub mod Serving
+pub mod Stepping
+pub mod Turning

@@ -1,0 +1,73 @@
+//! The messages at the heads of lanes.
+
+ghost use Rattle.std.specs.Prelude.{◌≡◌, true, is_some, IfOk, Some};
+ghost use Rattle.fk_queue.specs.Letters.{head_number};
+ghost use Rattle.fk_queue.specs.Meaning.{has_lane};
+ghost use Rattle.fk_queue.specs.Posts.{post_of};
+ghost use Rattle.fk_wire.specs.NoteText.{IsNoteText};
+ghost use Rattle.fk_wire.specs.PushedText.{IsPushedText};
+ghost use Rattle.fk_wire.specs.SentText.{IsSentText};
+ghost use Rattle.fk_wire.specs.declared.message.Note.{Note};
+ghost use Rattle.fk_wire.specs.declared.message.Pushed.{Pushed};
+ghost use Rattle.fk_wire.specs.declared.message.Sent.{Sent};
+ghost use Rattle.fk_engine.specs.Heads.{IsHead, IsReadable};
+
+use fk_base::NoMemory;
+use fk_client::head_text;
+use fk_queue::{Lane, Post};
+use fk_wire::{Note, Pushed, Sent, WireFault, decode_note, decode_pushed, decode_send};
+use std::alloc::Global;
+
+/// The request at the head of a session's lane.
+pub fn sent_at(alloc: Global, post: &Post, lane: Lane) -> Result<Sent, NoMemory>
+    requires lane { has_lane (post_of post.now) lane ≡ true }
+    requires head { is_some (head_number ((post_of post.now).lanes lane)) ≡ true }
+    requires readable { IsReadable IsSentText ((post_of post.now).lanes lane).waiting }
+    ensures told { IfOk result (λ m. IsHead IsSentText ((post_of post.now).lanes lane).waiting
+        (Some m)) }
+    ensures back { (m : Sent) → IsHead IsSentText ((post_of post.now).lanes lane).waiting (Some m)
+        → IfOk result (λ n. n ≡ m) }
+{
+    let text = head_text(alloc, post, lane)?;
+    match decode_send(alloc, text.as_slice()) {
+        Ok(message) => Ok(message),
+        Err(WireFault::Malformed) => unreachable!(),
+        Err(WireFault::NoMemory) => Err(NoMemory),
+    }
+}
+
+/// The push at the head of the leader's lane.
+pub fn pushed_at(alloc: Global, post: &Post, lane: Lane) -> Result<Pushed, NoMemory>
+    requires lane { has_lane (post_of post.now) lane ≡ true }
+    requires head { is_some (head_number ((post_of post.now).lanes lane)) ≡ true }
+    requires readable { IsReadable IsPushedText ((post_of post.now).lanes lane).waiting }
+    ensures told { IfOk result (λ m. IsHead IsPushedText ((post_of post.now).lanes lane).waiting
+        (Some m)) }
+    ensures back { (m : Pushed) → IsHead IsPushedText ((post_of post.now).lanes lane).waiting
+        (Some m) → IfOk result (λ n. n ≡ m) }
+{
+    let text = head_text(alloc, post, lane)?;
+    match decode_pushed(alloc, text.as_slice()) {
+        Ok(message) => Ok(message),
+        Err(WireFault::Malformed) => unreachable!(),
+        Err(WireFault::NoMemory) => Err(NoMemory),
+    }
+}
+
+/// The note at the head of the watch lane.
+pub fn note_at(alloc: Global, post: &Post, lane: Lane) -> Result<Note, NoMemory>
+    requires lane { has_lane (post_of post.now) lane ≡ true }
+    requires head { is_some (head_number ((post_of post.now).lanes lane)) ≡ true }
+    requires readable { IsReadable IsNoteText ((post_of post.now).lanes lane).waiting }
+    ensures told { IfOk result (λ m. IsHead IsNoteText ((post_of post.now).lanes lane).waiting
+        (Some m)) }
+    ensures back { (m : Note) → IsHead IsNoteText ((post_of post.now).lanes lane).waiting (Some m)
+        → IfOk result (λ n. n ≡ m) }
+{
+    let text = head_text(alloc, post, lane)?;
+    match decode_note(alloc, text.as_slice()) {
+        Ok(message) => Ok(message),
+        Err(WireFault::Malformed) => unreachable!(),
+        Err(WireFault::NoMemory) => Err(NoMemory),
+    }
+}
