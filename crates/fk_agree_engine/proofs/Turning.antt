@@ -41,6 +41,19 @@ client_there p (suc c) h ms i s = is_there ms c (within (length p.asks) i s.coun
     within : (k : ℕ) → (nat_le 1 (suc c) && nat_le (suc c) k) ≡ true → length ms ≡ k → c < length ms
     within k e f = grind (arith, nat_tests)
 
+set_same : (xs : List Meaning) (i : ℕ) (x : Meaning) → item_after xs i ≡ Some x → set xs i x ≡ xs
+set_same [] i x e = refl
+set_same (y ∷ xs) zero x e = ap (λ z. z ∷ xs) (sym (some_same y x e))
+set_same (y ∷ xs) (suc i) x e = ap (λ zs. y ∷ zs) (set_same xs i x e)
+
+-- a client that stays as it is leaves them all
+pub same_clients : (c : ℕ) (m : Meaning) (ms : List Meaning) → nth ms c ≡ Some m → with_client c m ms ≡ ms
+same_clients zero m ms q = absurd (none_some m q)
+same_clients (suc c) m ms q = ap (λ z. set ms z m) before ∙ set_same ms c m q
+  where
+    before : suc c - 1 ≡ c
+    before = omega arith
+
 -- The clients. -------------------------------------------------------------------------------------------
 
 pub clients_stay : (p : Plan) (e : Entry) (h : List Entry) (ms : List Meaning) → IsHistory p (e ∷ h) → client_in e.op ≡ None → ClientsStand p h ms → ClientsStand p (e ∷ h) ms

@@ -44,7 +44,8 @@ use Rattle.fk_engine.specs.Fit.{IsReadAt}
 use Rattle.fk_engine.specs.Parts.{Meaning}
 use Rattle.fk_engine.specs.Reads.{Read}
 use Rattle.fk_engine.specs.Serving.{armed, calmed}
-use Rattle.fk_engine.specs.Turning.{IsTold, services_by, turn_clients, turn_lines, turn_op, turn_services, with_client}
+use Rattle.fk_engine.specs.Turning as turning
+use Rattle.fk_engine.specs.Turning.{IsTold, client_lines, client_services, clients_after, services_by, with_client}
 use Rattle.fk_agree.proofs.Serving.{lane_is}
 use Rattle.fk_agree_client.specs.Making.{Looks}
 use Rattle.fk_agree_client.specs.Serving.{IsFailed}
@@ -58,7 +59,7 @@ use Rattle.fk_agree_engine.specs.World.{IsWorld}
 use Rattle.fk_agree_engine.proofs.Flights.{functions_stay}
 use Rattle.fk_agree_engine.proofs.Plain.{idle_goes_on, longer}
 use Rattle.fk_agree_engine.proofs.Readable.{IsSilent, silent_sends, still_readable}
-use Rattle.fk_agree_engine.proofs.Turning.{client_there, clients_stay, clients_turn}
+use Rattle.fk_agree_engine.proofs.Turning.{client_there, clients_stay, clients_turn, same_clients}
 
 -- The operation of a client is its own. ------------------------------------------------------------------
 
@@ -235,7 +236,7 @@ abbrev entry_by : Event → Services → Option Tell → client.Meaning → Bool
 entry_by v s o m b = record { event = v; op = if b then op.Idle else step_op s.table s.post s.watches s.user o m; lines = if b then [] else lines_after_step s.table s.post s.watches s.user o m }
 
 abbrev turn_entry : Event → Services → Option Tell → Option client.Meaning → Entry
-turn_entry v s o m = record { event = v; op = turn_op s o m; lines = turn_lines s o m }
+turn_entry v s o m = record { event = v; op = turning.client_op s o m; lines = client_lines s o m }
 
 -- an entry of this event, with the lines that the rules say
 abbrev ruled : Plan → List Entry → Event → Op → Entry
@@ -305,14 +306,14 @@ calm_world p e h w z = record {
 
 abbrev turn_by : Meaning → ℕ → (Services → Services) → Services → Option Tell → client.Meaning → Bool → Meaning
 turn_by w c calm s o m b = record w {
-  clients = if b then w.clients else with_client c (after_step s.table s.post s.watches s.user o m) w.clients;
+  clients = with_client c (if b then m else after_step s.table s.post s.watches s.user o m) w.clients;
   services = calm (if b then s else services_by m (step_op s.table s.post s.watches s.user o m) s);
 }
 
-turn_case : (p : Plan) (c : ℕ) (h : List Entry) (w : Meaning) (m : client.Meaning) (o : Option Tell) (b : Bool) → is_idle w.services.post m ≡ b → CanPlay p h w (event.Client c) → IsClient p c h m → IsToldTo w.services m o → IsHistory p (entry_by (event.Client c) w.services o m b ∷ h)
+turn_case : (p : Plan) (c : ℕ) (h : List Entry) (w : Meaning) (m : client.Meaning) (o : Option Tell) (b : Bool) → is_idle w.services.post m ≡ b → nth w.clients c ≡ Some m → CanPlay p h w (event.Client c) → IsClient p c h m → IsToldTo w.services m o → IsHistory p (entry_by (event.Client c) w.services o m b ∷ h)
     → IsWorld p (entry_by (event.Client c) w.services o m b ∷ h) (turn_by w c as_it_is w.services o m b)
-turn_case p c h w m o true e k i r l = idle_goes_on p h w (event.Client c) l k.world
-turn_case p c h w m o false e k i r l =
+turn_case p c h w m o true e q k i r l = subst (λ ms. IsWorld p (entry_by (event.Client c) w.services o m true ∷ h) (record w { clients = ms })) (sym (same_clients c m w.clients q)) (idle_goes_on p h w (event.Client c) l k.world)
+turn_case p c h w m o false e q k i r l =
     turn_world p c x h w (after_step s.table s.post s.watches s.user o m) (services_by m x.op s) l own k.named
     (client_goes_on p c x h o m s.table s.post s.user s.watches k.limits.reads l own a k.world.services)
     (client_is_written p c x h m s.table s.post s.user s.watches l own k.named i k.world.services) k.world
@@ -329,10 +330,10 @@ turn_case p c h w m o false e k i r l =
     own : client_in x.op ≡ Some c
     own = ap client_in (client_makes_its_op p c h o m s.table s.post s.user s.watches a k.world.services) ∙ busy_own p c h w m k.world k.named i e
 
-fail_case : (p : Plan) (c : ℕ) (h : List Entry) (w : Meaning) (m : client.Meaning) (o : Option Tell) (b : Bool) → is_idle w.services.post m ≡ b → CanPlay p h w (event.FailClient c) → IsClient p c h m → IsToldTo w.services m o → IsHistory p (entry_by (event.FailClient c) (armed w.services) o m b ∷ h)
+fail_case : (p : Plan) (c : ℕ) (h : List Entry) (w : Meaning) (m : client.Meaning) (o : Option Tell) (b : Bool) → is_idle w.services.post m ≡ b → nth w.clients c ≡ Some m → CanPlay p h w (event.FailClient c) → IsClient p c h m → IsToldTo w.services m o → IsHistory p (entry_by (event.FailClient c) (armed w.services) o m b ∷ h)
     → IsWorld p (entry_by (event.FailClient c) (armed w.services) o m b ∷ h) (turn_by w c calmed (armed w.services) o m b)
-fail_case p c h w m o true e k i r l = calm_world p (entry_by (event.FailClient c) (armed w.services) o m true) h w (idle_goes_on p h w (event.FailClient c) l k.world)
-fail_case p c h w m o false e k i r l =
+fail_case p c h w m o true e q k i r l = subst (λ ms. IsWorld p (entry_by (event.FailClient c) (armed w.services) o m true ∷ h) (record w { clients = ms; services = calmed (armed w.services) })) (sym (same_clients c m w.clients q)) (calm_world p (entry_by (event.FailClient c) (armed w.services) o m true) h w (idle_goes_on p h w (event.FailClient c) l k.world))
+fail_case p c h w m o false e q k i r l =
     turn_world p c x h w (after_step (armed s).table (armed s).post (armed s).watches (armed s).user o m) (calmed (services_by m x.op (armed s))) l own k.named
     (client_goes_on p c x h o m s.table s.post s.user s.watches k.limits.reads l own a k.world.services)
     (client_fault_is_written p x h m s.table s.post s.user s.watches l (subst IsFailed (sym g) (failed_so (client_op p c h) c (busy_own p c h w m k.world k.named i e))) k.world.services) k.world
@@ -356,12 +357,12 @@ pub turn_goes_on : (p : Plan) (h : List Entry) (w : Meaning) (c : ℕ) (r : Read
 turn_goes_on p h w c r k i =
     let m = there p c h w k.world k.named in
     let l = longer p h w (event.Client c) r k (turn_next p h w c r k i) in
-    subst (λ o. IsHistory p (turn_entry (event.Client c) w.services r.told o ∷ h) → IsWorld p (turn_entry (event.Client c) w.services r.told o ∷ h) (record w { clients = turn_clients w.services r.told c o w.clients; services = as_it_is (turn_services w.services r.told o) })) (sym m.1)
-    (λ z. turn_case p c h w m.0 r.told (is_idle w.services.post m.0) refl k m.2 (subst (λ o. IsTold w.services r.told o) m.1 i) z) l
+    subst (λ o. IsHistory p (turn_entry (event.Client c) w.services r.told o ∷ h) → IsWorld p (turn_entry (event.Client c) w.services r.told o ∷ h) (record w { clients = clients_after w.services r.told c o w.clients; services = as_it_is (client_services w.services r.told o) })) (sym m.1)
+    (λ z. turn_case p c h w m.0 r.told (is_idle w.services.post m.0) refl m.1 k m.2 (subst (λ o. IsTold w.services r.told o) m.1 i) z) l
 
 pub fail_goes_on : (p : Plan) (h : List Entry) (w : Meaning) (c : ℕ) (r : Read) → CanPlay p h w (event.FailClient c) → IsReadAt w (event.FailClient c) r → IsWorld p (made w (event.FailClient c) r ∷ h) (turned w calmed (armed w.services) r c)
 fail_goes_on p h w c r k i =
     let m = there p c h w k.world k.named in
     let l = longer p h w (event.FailClient c) r k (fail_next p h w c r k i) in
-    subst (λ o. IsHistory p (turn_entry (event.FailClient c) (armed w.services) r.told o ∷ h) → IsWorld p (turn_entry (event.FailClient c) (armed w.services) r.told o ∷ h) (record w { clients = turn_clients (armed w.services) r.told c o w.clients; services = calmed (turn_services (armed w.services) r.told o) })) (sym m.1)
-    (λ z. fail_case p c h w m.0 r.told (is_idle w.services.post m.0) refl k m.2 (subst (λ o. IsTold w.services r.told o) m.1 i) z) l
+    subst (λ o. IsHistory p (turn_entry (event.FailClient c) (armed w.services) r.told o ∷ h) → IsWorld p (turn_entry (event.FailClient c) (armed w.services) r.told o ∷ h) (record w { clients = clients_after (armed w.services) r.told c o w.clients; services = calmed (client_services (armed w.services) r.told o) })) (sym m.1)
+    (λ z. fail_case p c h w m.0 r.told (is_idle w.services.post m.0) refl m.1 k m.2 (subst (λ o. IsTold w.services r.told o) m.1 i) z) l
