@@ -55,3 +55,8 @@ Leads s t n f g = (r : Read) → IsReadBy s r (f.running n) → g ≡ function_m
 -- it reads something
 abbrev pub IsGiven : Services → Option machine.Meaning → Type 0
 IsGiven s m = (r : Read) × IsReadBy s r m
+
+-- what it sends with it can be read
+abbrev pub SendsReadable : Times → Option machine.Meaning → Type 0
+SendsReadable t None = ⊤
+SendsReadable t (Some m) = machine.IsReadable t m

@@ -10,7 +10,7 @@ ghost use Rattle.fk_engine.specs.DrainFit.{FitsDrain, FitsReady};
 ghost use Rattle.fk_engine.specs.Engine.{Plays, engine_of, new_engine};
 ghost use Rattle.fk_engine.specs.Fit.{FitsEvent};
 ghost use Rattle.fk_engine.specs.Flights.{AreInFlight};
-ghost use Rattle.fk_engine.specs.Playing.{IsGiven};
+ghost use Rattle.fk_engine.specs.Playing.{IsGiven, SendsReadable};
 
 use crate::functions::Functions;
 use crate::parts::Parts;
@@ -81,6 +81,7 @@ impl<T: Table> Engine<T> {
         ensures played { OnOk result (Plays event.now (engine_of T.meaning self.old)
             (engine_of T.meaning self.new)) }
         ensures given { OnOk result (IsGiven (engine_of T.meaning self.old).parts event.now) }
+        ensures sent { OnOk result (SendsReadable (engine_of T.meaning self.old).parts event.now) }
         ensures room { OnOk result (length (engine_of T.meaning self.old).past < 2 ^ 62) }
         ensures unspent { OnOk result ((engine_of T.meaning self.old).spent ≡ false) }
         ensures past { OnErr result ((engine_of T.meaning self.new).past

@@ -50,7 +50,7 @@ impl Functions {
     ghost use Rattle.fk_engine.specs.FlightsStanding.{functions_of};
     ghost use Rattle.fk_engine.specs.Machines.{machine_of};
     ghost use Rattle.fk_engine.specs.Serving.{services_of};
-    ghost use Rattle.fk_engine.specs.Stepping.{AreLinesOf, FitsStepOf, IsGiven, IsOpOf, Leads, function_services};
+    ghost use Rattle.fk_engine.specs.Stepping.{AreLinesOf, FitsStepOf, IsGiven, IsOpOf, Leads, SendsReadable, function_services};
 
     /// No function was started.
     #[tactic(auto, unfolding(crate::specs::FlightsStanding::functions_of))]
@@ -149,6 +149,7 @@ impl Functions {
             ((functions_of self.old).running number)) }
         ensures given { OnOk result (IsGiven (services_of T.meaning services.old)
             ((functions_of self.old).running number)) }
+        ensures sent { OnOk result (SendsReadable times ((functions_of self.old).running number)) }
     {
         let Some(machine) = self.running.get_mut(&number) else {
             return Ok((Op::Idle, Lines::new(alloc)));

@@ -3,7 +3,7 @@
 ghost use Rattle.std.specs.Prelude.{IfOk, OnOk};
 ghost use Rattle.fk_engine.specs.Fit.{FitsEvent};
 ghost use Rattle.fk_engine.specs.Parts.{parts_of};
-ghost use Rattle.fk_engine.specs.Playing.{AreLinesOf, IsGiven, IsOpOf, Leads};
+ghost use Rattle.fk_engine.specs.Playing.{AreLinesOf, IsGiven, IsOpOf, Leads, SendsReadable};
 
 use crate::parts::Parts;
 use fk_base::NoMemory;
@@ -19,6 +19,7 @@ impl<T: Table> Parts<T> {
         ensures after { OnOk result (Leads (parts_of T.meaning self.old) event.now
             (parts_of T.meaning self.new)) }
         ensures given { OnOk result (IsGiven (parts_of T.meaning self.old) event.now) }
+        ensures sent { OnOk result (SendsReadable (parts_of T.meaning self.old) event.now) }
     {
         match *event {
             Event::Client(session) => self.turn(session),

@@ -4,7 +4,7 @@ ghost use Rattle.std.specs.Prelude.{IfOk, OnOk};
 ghost use Rattle.fk_print.specs.declared.event.Event.TheVariants as event;
 ghost use Rattle.fk_engine.specs.Fit.{FitsEvent};
 ghost use Rattle.fk_engine.specs.Parts.{parts_of};
-ghost use Rattle.fk_engine.specs.Playing.{AreLinesOf, IsGiven, IsOpOf, Leads};
+ghost use Rattle.fk_engine.specs.Playing.{AreLinesOf, IsGiven, IsOpOf, Leads, SendsReadable};
 
 use crate::parts::Parts;
 use fk_base::NoMemory;
@@ -22,6 +22,8 @@ impl<T: Table> Parts<T> {
         ensures after { OnOk result (Leads (parts_of T.meaning self.old) (event.Step function)
             (parts_of T.meaning self.new)) }
         ensures given { OnOk result (IsGiven (parts_of T.meaning self.old) (event.Step function)) }
+        ensures sent { OnOk result (SendsReadable (parts_of T.meaning self.old)
+            (event.Step function)) }
     {
         self.functions
             .step(self.alloc, function, &mut self.services, self.times)
@@ -37,6 +39,8 @@ impl<T: Table> Parts<T> {
         ensures after { OnOk result (Leads (parts_of T.meaning self.old) (event.Fail function)
             (parts_of T.meaning self.new)) }
         ensures given { OnOk result (IsGiven (parts_of T.meaning self.old) (event.Fail function)) }
+        ensures sent { OnOk result (SendsReadable (parts_of T.meaning self.old)
+            (event.Fail function)) }
     {
         self.services.arm();
         let made = self

@@ -14,7 +14,7 @@ invariant_of-self c = (
 )
 
 pub overflow_add-self-inside : goal.overflow_add-self-inside
-overflow_add-self-inside c = omega (arith, within_out c.self.inside.items.items c.args.self.now c.self.inside.first c.in-Some.place c.args.number c.self.view_is c.in-Some.ensures.some, c.as_slice-length.ensures.value, c.as_slice-length.ensures.len)
+overflow_add-self-inside c = omega (arith, within_out c.self.inside.items.items c.args.self.now c.self.inside.first c.in-Some.place c.args.number c.self.view_is c.in-Some.ensures.some, c.as_slice-length.ensures.len)
 
 pub remove-requires : goal.remove-requires
 remove-requires c = rw (← c.as_slice-length.ensures.len, c.as_slice-length.ensures.value) (within_out c.self.inside.items.items c.args.self.now c.self.inside.first c.in-Some.place c.args.number c.self.view_is c.in-Some.ensures.some)

@@ -124,3 +124,33 @@ returns-in-Clock-clause-after g c = rw c.in-Clock.is c.show.ensures.after
 
 pub returns-in-Clock-clause-given : goal.returns-in-Clock-clause-given
 returns-in-Clock-clause-given g c = rw c.in-Clock.is (clock_given (parts_of g.T.Table.meaning c.args.self.now) c.in-Clock.moment)
+
+pub returns-in-Client-clause-sent : goal.returns-in-Client-clause-sent
+returns-in-Client-clause-sent g c = rw c.in-Client.is (ok_always c.turn.result tt)
+
+pub returns-in-Deliver-clause-sent : goal.returns-in-Deliver-clause-sent
+returns-in-Deliver-clause-sent g c = rw c.in-Deliver.is (ok_always c.deliver.result tt)
+
+pub returns-in-Leader-clause-sent : goal.returns-in-Leader-clause-sent
+returns-in-Leader-clause-sent g c = rw c.in-Leader.is (ok_always c.lead.result tt)
+
+pub returns-in-Watch-clause-sent : goal.returns-in-Watch-clause-sent
+returns-in-Watch-clause-sent g c = rw c.in-Watch.is (ok_always c.watch.result tt)
+
+pub returns-in-Beat-clause-sent : goal.returns-in-Beat-clause-sent
+returns-in-Beat-clause-sent g c = rw c.in-Beat.is (ok_always c.beat.result tt)
+
+pub returns-in-Step-clause-sent : goal.returns-in-Step-clause-sent
+returns-in-Step-clause-sent g c = rw c.in-Step.is c.step.ensures.sent
+
+pub returns-in-Fail-clause-sent : goal.returns-in-Fail-clause-sent
+returns-in-Fail-clause-sent g c = rw c.in-Fail.is c.fail.ensures.sent
+
+pub returns-in-FailClient-clause-sent : goal.returns-in-FailClient-clause-sent
+returns-in-FailClient-clause-sent g c = rw c.in-FailClient.is (ok_always c.fail_turn.result tt)
+
+pub returns-in-Crash-clause-sent : goal.returns-in-Crash-clause-sent
+returns-in-Crash-clause-sent g c = rw c.in-Crash.is tt
+
+pub returns-in-Clock-clause-sent : goal.returns-in-Clock-clause-sent
+returns-in-Clock-clause-sent g c = rw c.in-Clock.is tt
