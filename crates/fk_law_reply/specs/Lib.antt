@@ -1,3 +1,4 @@
 pub mod Ledger
 pub mod Reads
 pub mod Replying
+pub mod RefusedOutcomes

@@ -3,9 +3,11 @@
 #![tactic(auto)]
 
 mod made_reads;
+mod refused_requests;
 mod replies;
 mod sent_numbers;
 
 pub use made_reads::reads_show_the_tree;
+pub use refused_requests::refused_requests_hold_at_their_numbers;
 pub use replies::{replies_are_explained, replies_fit};
 pub use sent_numbers::{commands_are_begun_in_order, kept_commands_are_entered};
