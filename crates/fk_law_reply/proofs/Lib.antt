@@ -1,5 +1,7 @@
-pub mod Ledger
-pub mod Finding
+pub mod ClosedClients
 pub mod Explaining
+pub mod Finding
 pub mod Fitting
+pub mod Ledger
+pub mod Plans
 pub mod RefusedOutcomes

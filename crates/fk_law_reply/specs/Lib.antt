@@ -1,4 +1,6 @@
+pub mod ClosedClients
 pub mod Ledger
+pub mod Plans
 pub mod Reads
-pub mod Replying
 pub mod RefusedOutcomes
+pub mod Replying
