@@ -1,4 +1,5 @@
 pub mod ClosedClients
+pub mod Evicting
 pub mod Explaining
 pub mod Finding
 pub mod Fitting

@@ -1,4 +1,5 @@
 pub mod ClosedClients
+pub mod Evictions
 pub mod Ledger
 pub mod Plans
 pub mod Reads

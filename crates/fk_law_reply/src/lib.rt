@@ -4,6 +4,7 @@
 
 mod closed_clients;
 mod command_verbs;
+mod evictions;
 mod made_reads;
 mod refused_requests;
 mod replies;
@@ -11,6 +12,7 @@ mod sent_numbers;
 
 pub use closed_clients::closed_clients_are_right;
 pub use command_verbs::deployments_have_fitting_verbs;
+pub use evictions::evictions_are_of_late_heartbeats;
 pub use made_reads::reads_show_the_tree;
 pub use refused_requests::refused_requests_hold_at_their_numbers;
 pub use replies::{replies_are_explained, replies_fit};
