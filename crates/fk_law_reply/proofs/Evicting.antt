@@ -1,9 +1,7 @@
 -- An evicting close is of a heartbeat that found its session late.
 use Rattle.std.specs.Prelude.{◌==◌, ◌&&◌, ◌||◌, if◌then◌else◌}
-use Rattle.std.proofs.Common.{◌≡◌, ◌≢◌, ℕ, ◌+◌, Bool, true, false, List, [], ◌∷◌, refl, sym, ◌∙◌, ap, subst, arith, Option, Some, None}
-use Rattle.std.proofs.lemmas.Bool.{false≢true}
+use Rattle.std.proofs.Common.{◌≡◌, ℕ, ◌+◌, Bool, true, false, List, [], ◌∷◌, refl, sym, ◌∙◌, ap, subst, arith, Option, Some, None}
 use Rattle.std.proofs.lemmas.Bool.Decides.{nat_tests}
-use Rattle.fk_tree.specs.declared.request.Request.{Request}
 use Rattle.fk_tree.specs.declared.request.Request.TheVariants as request
 use Rattle.fk_print.specs.declared.entry.Entry.{Entry}
 use Rattle.fk_print.specs.declared.op.Op.{Op}
@@ -11,7 +9,6 @@ use Rattle.fk_print.specs.declared.op.Op.TheVariants as op
 use Rattle.fk_spec.specs.Plan.{Plan, Ask, Want, Unfit, Writes, Reads, asked}
 use Rattle.fk_spec.specs.Start.{Origin, Start, Task, Follows, Leads, Notifies, Probes, origin_here, origin_of, probes_session, request_from, request_in, request_of, sends_of, sent_in, task_of, written}
 use Rattle.fk_spec.specs.Start as start
-use Rattle.fk_spec.specs.Leader as leader
 use Rattle.fk_spec.specs.Teller as teller
 use Rattle.fk_spec.specs.Teller.{Note}
 use Rattle.fk_spec.specs.Heartbeat as heartbeat
@@ -27,6 +24,7 @@ use Rattle.fk_law.proofs.Starting.{place_for}
 use Rattle.fk_law_client.proofs.Messages.{none_some, same_number, some_same}
 use Rattle.fk_law_reply.specs.Evictions.{EvictorFoundLate, EvictionIsOfALateHeartbeat}
 use Rattle.fk_law_reply.specs.Plans.{HasFittingVerbs}
+use Rattle.fk_law_tree.proofs.Members.{or_left, or_right}
 
 -- Who evicts. ------------------------------------------------------------------------------------------
 
@@ -87,14 +85,6 @@ evictor_found_late p n c h l q = subst (LateSo (has_found_late n h)) q (late_at 
 
 -- What is evicted. -------------------------------------------------------------------------------------
 
-or_later : (a b : Bool) → b ≡ true → (a || b) ≡ true
-or_later true b e = refl
-or_later false b e = e
-
-or_now : (a b : Bool) → a ≡ true → (a || b) ≡ true
-or_now true b e = refl
-or_now false b e = absurd (false≢true e)
-
 its_session : (n c d : ℕ) (t : Option Task) → t ≡ Some (Probes d) → probes_session c t ≡ true → d ≡ c
 its_session n c d t e f = same_number d c (subst (λ z. probes_session c z ≡ true) e f)
 
@@ -113,12 +103,12 @@ evicts_now p c k h (op.Evict n j) l d e f = by_probe (probes_session c (task_of 
 evicts_now p c k h o l d e f = absurd (grind (arith, nat_tests))
 
 evicted_step : (p : Plan) (c k : ℕ) (e : Entry) (h : List Entry) (x : Option Origin) → sent_in c h e.op ≡ x → IsHistory p (e ∷ h) → (origin_of c k h ≡ Some start.Evicted → is_evicted_late c k h ≡ true) → origin_here (sends_of c h) k x (origin_of c k h) ≡ Some start.Evicted → is_evicted_late c k (e ∷ h) ≡ true
-evicted_step p c k e h None q l i a = or_later (evicts_late c k h e.op) (is_evicted_late c k h) (i a)
+evicted_step p c k e h None q l i a = or_right (evicts_late c k h e.op) (is_evicted_late c k h) (i a)
 evicted_step p c k e h (Some y) q l i a = by_number (sends_of c h + 1 == k) refl a
   where
     by_number : (b : Bool) → (sends_of c h + 1 == k) ≡ b → (if b then Some y else origin_of c k h) ≡ Some start.Evicted → is_evicted_late c k (e ∷ h) ≡ true
-    by_number true f w = or_now (evicts_late c k h e.op) (is_evicted_late c k h) (evicts_now p c k h e.op l.0 (due p e h l) (q ∙ w) (same_number (sends_of c h + 1) k f))
-    by_number false f w = or_later (evicts_late c k h e.op) (is_evicted_late c k h) (i w)
+    by_number true f w = or_left (evicts_late c k h e.op) (is_evicted_late c k h) (evicts_now p c k h e.op l.0 (due p e h l) (q ∙ w) (same_number (sends_of c h + 1) k f))
+    by_number false f w = or_right (evicts_late c k h e.op) (is_evicted_late c k h) (i w)
 
 evicted : (p : Plan) (c k : ℕ) (h : List Entry) → IsHistory p h → origin_of c k h ≡ Some start.Evicted → is_evicted_late c k h ≡ true
 evicted p c k [] l a = absurd (none_some start.Evicted a)

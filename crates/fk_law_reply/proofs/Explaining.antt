@@ -1,4 +1,4 @@
--- Why each reply shows what it shows.
+-- Why each line shows what it shows.
 use Rattle.std.proofs.Common.{◌≡◌, ℕ, ◌≤◌, ◌⊎◌, inl, inr, true, false, List, [], ◌∷◌, refl, sym, ◌∙◌, ap, subst, arith, Option, Some, None}
 use Rattle.std.proofs.lemmas.Bool.{false≢true}
 use Rattle.std.proofs.lemmas.Bool.Decides.{nat_tests}
@@ -19,7 +19,7 @@ use Rattle.fk_spec.specs.Client.{client_in, client_of, is_ready, number_looked_f
 use Rattle.fk_spec.specs.Replies.{shown_answer, shown_applied, shown_asked, shown_result, verb_asked}
 use Rattle.fk_spec.specs.PublicLines.{greatest_tx, lines_of, txs_among, txs_of}
 use Rattle.fk_spec.specs.Promises.{tx_for}
-use Rattle.fk_spec.specs.Refusals.{fails_read}
+use Rattle.fk_spec.specs.Refusals.{fails_read, evicts_late, is_evicted_late}
 use Rattle.fk_spec.specs.Next.{IsHistory}
 use Rattle.fk_law.proofs.Growing.{numbers_never_fall}
 use Rattle.fk_law.proofs.Leading.{mark_behind_sweep}
@@ -29,23 +29,28 @@ use Rattle.fk_law.proofs.Settled.{reached}
 use Rattle.fk_law.proofs.Stamping.{final_below_the_sweep}
 use Rattle.fk_law.proofs.TxLines.{greatest_tx_is_the_mark, published_request_has_its_line}
 use Rattle.fk_law_client.specs.Inboxes.{IsPublishedPush}
-use Rattle.fk_law_client.specs.Lines.{IsAmong, IsReadyLine, IsLookedLine, IsAnswerLine, IsFailedLine, IsPublication, ReplyIs, Ready, Looked, Answers, Failed, LineIsAfter, kept_after, EachAfter}
+use Rattle.fk_law_client.specs.Lines.{IsAmong, IsReadyLine, IsLookedLine, IsAnswerLine, IsFailedLine, IsPublication, ReplyIs, Ready, Looked, Answers, Failed, LineIsAfter, kept_after, EachAfter, IsExpiry}
 use Rattle.fk_law_client.specs.Operations.{BeginsRead, OperationSays, WaitsToRegister}
 use Rattle.fk_law_client.specs.Tracking.{IsTrueResult}
 use Rattle.fk_law_client.proofs.Lines.{client_lines_are, each_mapped, other_lines_are}
-use Rattle.fk_law_client.proofs.Messages.{none_some, published_push_stays, some_same}
+use Rattle.fk_law_client.proofs.Messages.{none_some, published_push_stays, some_same, inbox_messages}
 use Rattle.fk_law_client.proofs.Operating.{client_operations_say}
 use Rattle.fk_law_client.proofs.Seen.{seen_published}
-use Rattle.fk_law_client.proofs.Tracking.{acted_tracked, sent_tracked}
+use Rattle.fk_law_client.proofs.Tracking.{acted_tracked, sent_tracked, first_true}
 use Rattle.fk_law_reply.specs.ClosedClients.{KnownClosed}
 use Rattle.fk_law_reply.specs.Plans.{HasFittingVerbs}
 use Rattle.fk_law_reply.specs.Ledger.{HasOwnCause, IsEntered, message_number}
 use Rattle.fk_law_reply.specs.Reads.{IsMadeRead}
-use Rattle.fk_law_reply.specs.Replying.{IsWriteSent, ShowsOutcome, ShowsOwnResult, Why, AsApplied, AsRefused, AsOwn, AsAnswered, AsFailed, IsExplained, ReplyIsExplained, RepliesAreExplained, IsRefusedUpTo, AreExplained}
-use Rattle.fk_law_reply.proofs.ClosedClients.{expired_by_an_operation, known_stays}
+use Rattle.fk_law_reply.specs.Replying.{IsWriteSent, ShowsOutcome, ShowsOwnResult, Why, AsApplied, AsRefused, AsOwn, AsAnswered, AsFailed, IsExplained, LineIsExplained, LinesAreExplained, IsRefusedUpTo, AreExplained, IsEvictedBy}
+use Rattle.fk_law_reply.proofs.ClosedClients.{expired_by_an_operation, known_stays, evicted_request}
 use Rattle.fk_law_reply.proofs.Finding.{reads_show_the_tree}
 use Rattle.fk_law_reply.proofs.Ledger.{begun_never_falls, cause_stays, commands_of_an_operation_are_entered, its_message, kept_commands_are_entered, message_stays, sent_number_never_changes, tracked_among}
-use Rattle.std.specs.Prelude.{◌==◌}
+use Rattle.fk_law.specs.Due.{IsDue}
+use Rattle.fk_law.proofs.Due.{due}
+use Rattle.fk_spec.specs.Lanes.{Evicted, inbox_of}
+use Rattle.fk_law_reply.proofs.Evicting.{eviction_is_of_a_late_heartbeat}
+use Rattle.fk_law_tree.proofs.Members.{or_right}
+use Rattle.fk_law.proofs.Numbers.{itself}
 
 -- It stays true. ---------------------------------------------------------------------------------------
 
@@ -106,11 +111,14 @@ why_stays p e h up o b c i s a l (AsFailed x) = AsFailed x
 explained_stays : (p : Plan) (e : Entry) (h up : List Entry) (o : Op) (c i : ℕ) (v : Verb) (s : Shown) (b : List Line) → IsHistory p (e ∷ h) → IsExplained p h up o b c i v s → IsExplained p (e ∷ h) up o b c i v s
 explained_stays p e h up o c i v s b l x = record { ask = x.ask; is_asked = x.is_asked; verb = x.verb; why = why_stays p e h up o b c i s x.ask l x.why }
 
-line_stays : (p : Plan) (e : Entry) (h up : List Entry) (o : Op) → IsHistory p (e ∷ h) → (l : Line) (b : List Line) → ReplyIsExplained p h up o l b → ReplyIsExplained p (e ∷ h) up o l b
+evicted_stays : (p : Plan) (e : Entry) (h : List Entry) (c t : ℕ) → IsHistory p (e ∷ h) → IsEvictedBy p h c t → IsEvictedBy p (e ∷ h) c t
+evicted_stays p e h c t l x = record { k = x.k; push = published_push_stays p c x.k t true e h l x.push; late = or_right (evicts_late c x.k h e.op) (is_evicted_late c x.k h) x.late }
+
+line_stays : (p : Plan) (e : Entry) (h up : List Entry) (o : Op) → IsHistory p (e ∷ h) → (l : Line) (b : List Line) → LineIsExplained p h up o l b → LineIsExplained p (e ∷ h) up o l b
 line_stays p e h up o k (line.Reply c i v s) b x = explained_stays p e h up o c i v s b k x
 line_stays p e h up o k (line.Tx printed) b x = tt
 line_stays p e h up o k (line.Notice c t kind _ path) b x = tt
-line_stays p e h up o k (line.Expired c t) b x = tt
+line_stays p e h up o k (line.Expired c t) b x = evicted_stays p e h c t k x
 
 -- What is known of a kept command. ---------------------------------------------------------------------
 
@@ -224,12 +232,9 @@ answer_explained p c i h up z b v s r l x f g = record {
     is : asked p c i ≡ Some m.ask
     is = ap (asked p c) x.next ∙ m.is_asked
 
-self : (n : ℕ) → (n == n) ≡ true
-self n = grind (arith, nat_tests)
-
 fails_it : (c i : ℕ) (o : Op) → (o ≡ op.ReadFault c i) ⊎ (o ≡ op.WatchFault c i) → fails_read c i o ≡ true
-fails_it c i o (inl e) = subst (λ z. fails_read c i z ≡ true) (sym e) (rw (self c, self i) refl)
-fails_it c i o (inr e) = subst (λ z. fails_read c i z ≡ true) (sym e) (rw (self c, self i) refl)
+fails_it c i o (inl e) = subst (λ z. fails_read c i z ≡ true) (sym e) (rw (itself c, itself i) refl)
+fails_it c i o (inr e) = subst (λ z. fails_read c i z ≡ true) (sym e) (rw (itself c, itself i) refl)
 
 failed_explained : (p : Plan) (c i : ℕ) (h up : List Entry) (o : Op) (b : List Line) (v : Verb) (s : Shown) → OperationSays p c h o → IsFailedLine c i o s → v ≡ verb_asked (asked p c i) → IsExplained p h up o b c i v s
 failed_explained p c i h up o b v s a x f = by_op x.failed
@@ -244,28 +249,35 @@ reply_explained p c i e h b v s r l q (Looked x) f g = explained_stays p e h (e 
 reply_explained p c i e h b v s r l q (Answers x) f g = explained_stays p e h (e ∷ h) e.op c i v s b l (answer_explained p c i h (e ∷ h) e.op b v s r l.0 x f g)
 reply_explained p c i e h b v s r l q (Failed x) f g = explained_stays p e h (e ∷ h) e.op c i v s b l (failed_explained p c i h (e ∷ h) e.op b v s (client_operations_say p c e h l q) x f)
 
+-- an expiry: the message that is taken tells the eviction
+expiry_explained : (p : Plan) (c t : ℕ) (e : Entry) (h : List Entry) → HasFittingVerbs p → IsHistory p (e ∷ h) → IsExpiry p c h e.op t → IsEvictedBy p h c t
+expiry_explained p c t e h v l x =
+    let d : IsDue p h (op.TakeEvicted c x.k t) = subst (IsDue p h) x.taken (due p e h l) in
+    let m = first_true p c h (inbox_of p c h) d.0 (Evicted x.k t) d.1 (inbox_messages p c h l.0) in
+    record { k = x.k; push = m; late = eviction_is_of_a_late_heartbeat p c x.k h v l.0 (evicted_request p c x.k t h l.0 m) }
+
 -- Histories. -------------------------------------------------------------------------------------------
 
-line_explained : (p : Plan) (c : ℕ) (e : Entry) (h : List Entry) → HasFittingVerbs p → IsHistory p (e ∷ h) → client_in e.op ≡ Some c → (l : Line) (b : List Line) → LineIsAfter p c h e.op l b → ReplyIsExplained p (e ∷ h) (e ∷ h) e.op l b
+line_explained : (p : Plan) (c : ℕ) (e : Entry) (h : List Entry) → HasFittingVerbs p → IsHistory p (e ∷ h) → client_in e.op ≡ Some c → (l : Line) (b : List Line) → LineIsAfter p c h e.op l b → LineIsExplained p (e ∷ h) (e ∷ h) e.op l b
 line_explained p c e h r k q (line.Reply d i v s) b x = subst (λ z. IsExplained p (e ∷ h) (e ∷ h) e.op b z i v s) (sym x.0.0) (reply_explained p c i e h b v s r k q x.0.2 x.0.1 x.1)
 line_explained p c e h r k q (line.Tx printed) b x = tt
 line_explained p c e h r k q (line.Notice d t kind _ path) b x = tt
-line_explained p c e h r k q (line.Expired d t) b x = tt
+line_explained p c e h r k q (line.Expired d t) b x = subst (λ z. IsEvictedBy p (e ∷ h) z t) (sym x.0.0) (evicted_stays p e h c t k (expiry_explained p c t e h r k x.0.1))
 
-tx_explained : (p : Plan) (e : Entry) (h : List Entry) (l : Line) (b : List Line) → IsPublication p h e.op l → ReplyIsExplained p (e ∷ h) (e ∷ h) e.op l b
-tx_explained p e h l b x = subst (λ z. ReplyIsExplained p (e ∷ h) (e ∷ h) e.op z b) (sym x.line_is) tt
+tx_explained : (p : Plan) (e : Entry) (h : List Entry) (l : Line) (b : List Line) → IsPublication p h e.op l → LineIsExplained p (e ∷ h) (e ∷ h) e.op l b
+tx_explained p e h l b x = subst (λ z. LineIsExplained p (e ∷ h) (e ∷ h) e.op z b) (sym x.line_is) tt
 
-entry_explained : (p : Plan) (e : Entry) (h : List Entry) → HasFittingVerbs p → IsHistory p (e ∷ h) → EachAfter (ReplyIsExplained p (e ∷ h) (e ∷ h) e.op) e.lines (lines_of h)
+entry_explained : (p : Plan) (e : Entry) (h : List Entry) → HasFittingVerbs p → IsHistory p (e ∷ h) → EachAfter (LineIsExplained p (e ∷ h) (e ∷ h) e.op) e.lines (lines_of h)
 entry_explained p e h r l = by_client (client_in e.op) refl
   where
-    by_client : (o : Option ℕ) → client_in e.op ≡ o → EachAfter (ReplyIsExplained p (e ∷ h) (e ∷ h) e.op) e.lines (lines_of h)
-    by_client None q = each_mapped (λ x b. IsPublication p h e.op x) (ReplyIsExplained p (e ∷ h) (e ∷ h) e.op) e.lines (lines_of h) (tx_explained p e h) (other_lines_are p e h l q)
-    by_client (Some c) q = each_mapped (LineIsAfter p c h e.op) (ReplyIsExplained p (e ∷ h) (e ∷ h) e.op) e.lines (lines_of h) (line_explained p c e h r l q) (client_lines_are p c e h r.reads l q)
+    by_client : (o : Option ℕ) → client_in e.op ≡ o → EachAfter (LineIsExplained p (e ∷ h) (e ∷ h) e.op) e.lines (lines_of h)
+    by_client None q = each_mapped (λ x b. IsPublication p h e.op x) (LineIsExplained p (e ∷ h) (e ∷ h) e.op) e.lines (lines_of h) (tx_explained p e h) (other_lines_are p e h l q)
+    by_client (Some c) q = each_mapped (LineIsAfter p c h e.op) (LineIsExplained p (e ∷ h) (e ∷ h) e.op) e.lines (lines_of h) (line_explained p c e h r l q) (client_lines_are p c e h r.reads l q)
 
 explained_more : (p : Plan) (e : Entry) (h up : List Entry) → IsHistory p (e ∷ h) → AreExplained p h up → AreExplained p (e ∷ h) up
 explained_more p e h [] l i = tt
-explained_more p e h (x ∷ up) l i = (each_mapped (ReplyIsExplained p h (x ∷ up) x.op) (ReplyIsExplained p (e ∷ h) (x ∷ up) x.op) x.lines (lines_of up) (line_stays p e h (x ∷ up) x.op l) i.0, explained_more p e h up l i.1)
+explained_more p e h (x ∷ up) l i = (each_mapped (LineIsExplained p h (x ∷ up) x.op) (LineIsExplained p (e ∷ h) (x ∷ up) x.op) x.lines (lines_of up) (line_stays p e h (x ∷ up) x.op l) i.0, explained_more p e h up l i.1)
 
-pub replies_are_explained : RepliesAreExplained
-replies_are_explained p [] r l = tt
-replies_are_explained p (e ∷ h) r l = (entry_explained p e h r l, explained_more p e h h l (replies_are_explained p h r l.0))
+pub lines_are_explained : LinesAreExplained
+lines_are_explained p [] r l = tt
+lines_are_explained p (e ∷ h) r l = (entry_explained p e h r l, explained_more p e h h l (lines_are_explained p h r l.0))

@@ -1,7 +1,5 @@
 -- Each reply fits the tree.
-use Rattle.std.specs.Prelude.{nat_le}
-use Rattle.std.proofs.Common.{◌≡◌, ℕ, ◌≤◌, true, List, [], ◌∷◌, sym, ◌∙◌, ap, subst, arith, Option, Some, None}
-use Rattle.std.proofs.lemmas.Bool.Decides.{nat_tests}
+use Rattle.std.proofs.Common.{◌≡◌, ℕ, List, [], ◌∷◌, sym, ◌∙◌, ap, subst, Option, Some, None}
 use Rattle.fk_tree.specs.Apply.{reply_of}
 use Rattle.fk_tree.specs.Ask.{ask}
 use Rattle.fk_tree.specs.Edit.{view_after}
@@ -32,9 +30,10 @@ use Rattle.fk_law.proofs.Sending.{tx_is}
 use Rattle.fk_law.proofs.TxLines.{published_as_committed, uncommitted_request_has_no_line}
 use Rattle.fk_law_client.specs.Ordering.{IsInOrder}
 use Rattle.fk_law_client.proofs.Printing.{replies_ordered}
-use Rattle.fk_law_reply.specs.Replying.{IsWriteSent, IsAppliedReply, ShowsOutcome, IsRefusedReply, ShowsOwnResult, IsOwnReply, IsAnswer, Why, AsApplied, AsRefused, AsOwn, AsAnswered, AsFailed, IsExplained, ReplyIsExplained, RepliesFitTheTree, AreExplained}
+use Rattle.fk_law_reply.specs.Replying.{IsWriteSent, IsAppliedReply, ShowsOutcome, IsRefusedReply, ShowsOwnResult, IsOwnReply, IsAnswer, Why, AsApplied, AsRefused, AsOwn, AsAnswered, AsFailed, IsExplained, LineIsExplained, RepliesFitTheTree, AreExplained}
 use Rattle.fk_law_client.proofs.Lines.{each_mapped, each_onto}
-use Rattle.fk_law_reply.proofs.Explaining.{replies_are_explained}
+use Rattle.fk_law_reply.proofs.Explaining.{lines_are_explained}
+use Rattle.fk_law.proofs.Numbers.{tested}
 
 -- Writes. ----------------------------------------------------------------------------------------------
 
@@ -86,12 +85,9 @@ own_shows p h b c i s (Settled o) f e = absurd f
 
 -- Reads. -----------------------------------------------------------------------------------------------
 
-at_most : (a b : ℕ) → a ≤ b → nat_le a b ≡ true
-at_most a b e = grind (arith, nat_tests)
-
 own_reads : (h : List Entry) (b : List Line) (q : Query) (s : Shown) (r : Result) → ShowsOwnResult s b r → ReadShows h b q s
 own_reads h b q s (Plain cd) f = subst (ReadShows h b q) (sym f) tt
-own_reads h b q s (Expired at) f = subst (ReadShows h b q) (sym f.0) (at_most at (greatest_tx (txs_among b)) f.1)
+own_reads h b q s (Expired at) f = subst (ReadShows h b q) (sym f.0) (tested at (greatest_tx (txs_among b)) f.1)
 own_reads h b q s Open f = absurd f
 own_reads h b q s (Settled o) f = absurd f
 
@@ -105,7 +101,7 @@ answered_shows : (p : Plan) (h : List Entry) (b : List Line) (s : Shown) (w : Wa
 answered_shows p h b s w l x =
     let v = view_after (up_to x.number (committed_of p h)) in
     subst (ReadShows h b x.query) (sym x.shows)
-    (answer_reads h b x.query x.number (ask v x.query) (ap (λ z. shown_answer x.number (ask z x.query)) (sym (published_tree_is_shown p x.number h l x.published)), at_most x.number (greatest_tx (txs_among b)) x.printed))
+    (answer_reads h b x.query x.number (ask v x.query) (ap (λ z. shown_answer x.number (ask z x.query)) (sym (published_tree_is_shown p x.number h l x.published)), tested x.number (greatest_tx (txs_among b)) x.printed))
 
 -- Each reply. ------------------------------------------------------------------------------------------
 
@@ -132,7 +128,7 @@ abbrev ReplyShows : Plan → List Entry → Line → List Line → Type 0
 ReplyShows p h (line.Reply c i v s) b = AskShows p h b c i v s (asked p c i)
 ReplyShows p h _ b = Unit {0}
 
-line_shows : (p : Plan) (h up : List Entry) (z : Op) → IsHistory p h → (l : Line) (b : List Line) → ReplyIsExplained p h up z l b → ReplyShows p h l b
+line_shows : (p : Plan) (h up : List Entry) (z : Op) → IsHistory p h → (l : Line) (b : List Line) → LineIsExplained p h up z l b → ReplyShows p h l b
 line_shows p h up z k (line.Reply c i v s) b x = explained_shows p h up z b c i v s k x
 line_shows p h up z k (line.Tx printed) b x = tt
 line_shows p h up z k (line.Notice c t kind _ path) b x = tt
@@ -140,7 +136,7 @@ line_shows p h up z k (line.Expired c t) b x = tt
 
 lines_show : (p : Plan) (h up : List Entry) → IsHistory p h → AreExplained p h up → Each (ReplyShows p h) (lines_of up)
 lines_show p h [] l i = tt
-lines_show p h (e ∷ up) l i = each_onto (ReplyShows p h) e.lines (lines_of up) (lines_show p h up l i.1) (each_mapped (ReplyIsExplained p h (e ∷ up) e.op) (ReplyShows p h) e.lines (lines_of up) (line_shows p h (e ∷ up) e.op l) i.0)
+lines_show p h (e ∷ up) l i = each_onto (ReplyShows p h) e.lines (lines_of up) (lines_show p h up l i.1) (each_mapped (LineIsExplained p h (e ∷ up) e.op) (ReplyShows p h) e.lines (lines_of up) (line_shows p h (e ∷ up) e.op l) i.0)
 
 reply_fits : (p : Plan) (h : List Entry) (l : Line) (b : List Line) → IsInOrder l b → ReplyShows p h l b → ReplyFits p h l b
 reply_fits p h (line.Reply c i v s) b o x = (o, x)
@@ -153,4 +149,4 @@ each_fits p h [] o x = tt
 each_fits p h (l ∷ ls) o x = (reply_fits p h l ls o.0 x.0, each_fits p h ls o.1 x.1)
 
 pub replies_fit_the_tree : RepliesFitTheTree
-replies_fit_the_tree p h r l = each_fits p h (lines_of h) (replies_ordered p h r.reads l) (lines_show p h h l (replies_are_explained p h r l))
+replies_fit_the_tree p h r l = each_fits p h (lines_of h) (replies_ordered p h r.reads l) (lines_show p h h l (lines_are_explained p h r l))

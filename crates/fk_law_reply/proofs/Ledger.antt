@@ -26,6 +26,8 @@ use Rattle.fk_law_client.proofs.Kept.{client_after, among_unready, kept_commands
 use Rattle.fk_law_client.proofs.Messages.{same_number, some_same}
 use Rattle.fk_law_client.proofs.Operating.{client_operations_say}
 use Rattle.fk_law_reply.specs.Ledger.{BegunNeverFalls, OnlyBegunWereSent, SentNumberNeverChanges, HasOwnCause, IsEntered, IsMessage, KeptCommandsAreEntered, CommandsOfAnOperationAreEntered, message_number}
+use Rattle.fk_law_tree.proofs.Members.{or_right}
+use Rattle.fk_law.proofs.Numbers.{itself}
 
 -- How many commands are begun. -------------------------------------------------------------------------
 
@@ -101,10 +103,6 @@ sent_number_never_changes p c i h (e ∷ more) l b = sent_stays p c i e (more ++
 
 -- What the client itself answers. ----------------------------------------------------------------------
 
-or_later : (a b : Bool) → b ≡ true → (a || b) ≡ true
-or_later true b e = refl
-or_later false b e = e
-
 both : (a b : Bool) → (a && b) ≡ true → (a ≡ true) × (b ≡ true)
 both true b e = (refl, e)
 both false b e = absurd (false≢true e)
@@ -123,7 +121,7 @@ seen_stays p c i e h l b = ap (λ z. or_else z (seen_at c i h)) (seen_other c i 
 
 pub cause_stays : (p : Plan) (c i : ℕ) (e : Entry) (h : List Entry) (a : Ask) (r : Result) → IsHistory p (e ∷ h) → i ≤ (client_of p c h).begun → HasOwnCause c i h a r → HasOwnCause c i (e ∷ h) a r
 cause_stays p c i e h a (Plain code.BadArguments) l b x = x
-cause_stays p c i e h a (Plain code.ConnectionLoss) l b x = or_later (fails_send c i e.op) (has_failed_send c i h) x
+cause_stays p c i e h a (Plain code.ConnectionLoss) l b x = or_right (fails_send c i e.op) (has_failed_send c i h) x
 cause_stays p c i e h a (Plain cd) l b x = absurd x
 cause_stays p c i e h a (Expired at) l b x = seen_stays p c i e h l b ∙ x
 cause_stays p c i e h a Open l b x = tt
@@ -159,12 +157,9 @@ entered_stays p c begun e h s l b x = record {
 entered_told : (p : Plan) (c begun : ℕ) (h : List Entry) (s : Sent) (o : Outcome) → IsEntered p c begun h s → IsEntered p c begun h (record s { result = Settled o })
 entered_told p c begun h s o x = record { is_begun = x.is_begun; ask = x.ask; is_asked = x.is_asked; number = x.number; message = x.message; cause = tt }
 
-self : (n : ℕ) → (n == n) ≡ true
-self n = grind (arith, nat_tests)
-
 -- a command that is sent now
 sent_now : (p : Plan) (c i k : ℕ) (e : Entry) (h : List Entry) → e.op ≡ op.Send c i k → k ≡ sends_of c h + 1 → sent_as c i (e ∷ h) ≡ message_number k
-sent_now p c i k e h q f = subst (λ o. or_else (sent_as_in c i o) (sent_as c i h) ≡ message_number k) (sym q) (rw (self c, self i) (number k (sends_of c h) f))
+sent_now p c i k e h q f = subst (λ o. or_else (sent_as_in c i o) (sent_as c i h) ≡ message_number k) (sym q) (rw (itself c, itself i) (number k (sends_of c h) f))
   where
     number : (k n : ℕ) → k ≡ n + 1 → Some k ≡ message_number k
     number k n e = grind (arith, nat_tests)
@@ -174,10 +169,10 @@ unsent_now : (p : Plan) (c i : ℕ) (e : Entry) (h : List Entry) (o : Op) → Is
 unsent_now p c i e h o l q n f = subst (λ z. or_else (sent_as_in c i z) (sent_as c i h) ≡ None) (sym q) (ap (λ z. or_else z (sent_as c i h)) f ∙ only_begun_were_sent p c i h l.0 (omega (arith, n)))
 
 failed_now : (c i : ℕ) (e : Entry) (h : List Entry) → e.op ≡ op.SendFault c i → has_failed_send c i (e ∷ h) ≡ true
-failed_now c i e h q = subst (λ o. (fails_send c i o || has_failed_send c i h) ≡ true) (sym q) (rw (self c, self i) refl)
+failed_now c i e h q = subst (λ o. (fails_send c i o || has_failed_send c i h) ≡ true) (sym q) (rw (itself c, itself i) refl)
 
 seen_now : (c i : ℕ) (e : Entry) (h : List Entry) → e.op ≡ op.Local c i → seen_at c i (e ∷ h) ≡ Some (seen_by c h)
-seen_now c i e h q = subst (λ o. or_else (seen_at_in c i h o) (seen_at c i h) ≡ Some (seen_by c h)) (sym q) (rw (self c, self i) refl)
+seen_now c i e h q = subst (λ o. or_else (seen_at_in c i h o) (seen_at c i h) ≡ Some (seen_by c h)) (sym q) (rw (itself c, itself i) refl)
 
 unfit_is : (w : Want) → is_unfit_want w ≡ true → w ≡ Unfit
 unfit_is Unfit e = refl
@@ -195,7 +190,7 @@ message_now p c i k e h b q n = record {
   asks = ap (request_from p c) origin ∙ (ap written b.begins.is_asked ∙ ap request_in b.writes);
   seen = seen_by c h;
   seen_with_it = ap seen_from origin;
-  seen_then = subst (λ o. or_else (seen_at_in c i h o) (seen_at c i h) ≡ Some (seen_by c h)) (sym q) (rw (self c, self i) refl);
+  seen_then = subst (λ o. or_else (seen_at_in c i h o) (seen_at c i h) ≡ Some (seen_by c h)) (sym q) (rw (itself c, itself i) refl);
 }
   where
     origin : origin_of c k (e ∷ h) ≡ Some (start.Sent i (seen_by c h))

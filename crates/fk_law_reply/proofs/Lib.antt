@@ -1,3 +1,4 @@
+pub mod Causes
 pub mod ClosedClients
 pub mod Evicting
 pub mod Explaining

@@ -20,7 +20,7 @@ use Rattle.fk_spec.specs.Client.{client_of, Result, Plain, Expired}
 use Rattle.fk_spec.specs.Replies.{shown_answer, shown_loss, shown_reply}
 use Rattle.fk_spec.specs.PublicLines.{greatest_tx, lines_of, txs_among}
 use Rattle.fk_spec.specs.Promises.{RepliesFit, sent_as, tx_for}
-use Rattle.fk_spec.specs.Refusals.{fails_read}
+use Rattle.fk_spec.specs.Refusals.{RefusalsFit, fails_read, is_evicted_late}
 use Rattle.fk_spec.specs.Next.{IsHistory, printed_of}
 use Rattle.fk_law_client.specs.Inboxes.{IsPublishedPush}
 use Rattle.fk_law_client.specs.Lines.{EachAfter}
@@ -112,19 +112,30 @@ pub record IsExplained (p : Plan) (h up : List Entry) (o : Op) (before : List Li
   pub verb : v ≡ ask.verb
   pub why : Why p h up o before c i s ask
 
-abbrev pub ReplyIsExplained : Plan → List Entry → List Entry → Op → Line → List Line → Type 0
-ReplyIsExplained p h up o (line.Reply session command verb shown) before = IsExplained p h up o before session command verb shown
-ReplyIsExplained p h up o _ before = Unit {0}
+-- the expiry of session c: a close that evicts it is published, of a heartbeat that found it late
+pub record IsEvictedBy (p : Plan) (h : List Entry) (c tx : ℕ) : Type 0 where
+  pub k : ℕ
+  pub push : IsPublishedPush p c k tx true h
+  pub late : is_evicted_late c k h ≡ true
 
--- each reply of these entries of h is explained so
+abbrev pub LineIsExplained : Plan → List Entry → List Entry → Op → Line → List Line → Type 0
+LineIsExplained p h up o (line.Reply session command verb shown) before = IsExplained p h up o before session command verb shown
+LineIsExplained p h up o (line.Expired session tx) before = IsEvictedBy p h session tx
+LineIsExplained p h up o _ before = Unit {0}
+
+-- each line of these entries of h is explained so
 abbrev pub AreExplained : Plan → List Entry → List Entry → Type 0
 AreExplained p h [] = Unit {0}
-AreExplained p h (e ∷ k) = EachAfter (ReplyIsExplained p h (e ∷ k) e.op) e.lines (lines_of k) × AreExplained p h k
+AreExplained p h (e ∷ k) = EachAfter (LineIsExplained p h (e ∷ k) e.op) e.lines (lines_of k) × AreExplained p h k
 
--- Each reply is explained so.
-abbrev pub RepliesAreExplained : Type 0
-RepliesAreExplained = (p : Plan) (h : List Entry) → HasFittingVerbs p → IsHistory p h → AreExplained p h h
+-- Each reply and each expiry is explained so.
+abbrev pub LinesAreExplained : Type 0
+LinesAreExplained = (p : Plan) (h : List Entry) → HasFittingVerbs p → IsHistory p h → AreExplained p h h
 
 -- Each client's replies are in the order of its commands, one for each at most, and each fits the tree.
 abbrev pub RepliesFitTheTree : Type 0
 RepliesFitTheTree = (p : Plan) (h : List Entry) → HasFittingVerbs p → IsHistory p h → RepliesFit p h
+
+-- BADARGUMENTS comes exactly where the command is unfit; every other refusal has its cause.
+abbrev pub RefusalsHaveTheirCause : Type 0
+RefusalsHaveTheirCause = (p : Plan) (h : List Entry) → HasFittingVerbs p → IsHistory p h → RefusalsFit p h

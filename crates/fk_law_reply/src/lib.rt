@@ -15,5 +15,5 @@ pub use command_verbs::deployments_have_fitting_verbs;
 pub use evictions::evictions_are_of_late_heartbeats;
 pub use made_reads::reads_show_the_tree;
 pub use refused_requests::refused_requests_hold_at_their_numbers;
-pub use replies::{replies_are_explained, replies_fit};
+pub use replies::{lines_are_explained, refusals_have_their_cause, replies_fit};
 pub use sent_numbers::{commands_are_begun_in_order, kept_commands_are_entered};
