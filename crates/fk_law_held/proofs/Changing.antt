@@ -79,31 +79,35 @@ with_new j xs = by_test (contains j xs) refl
 
 -- Operations. ------------------------------------------------------------------------------------------
 
-for_change : (p : Plan) (c : ℕ) (h : List Entry) (o : Op) (ss : List Sent) → HeldChange p c h o (looked_for by_result (asks_in p c) ss (client_of p c h))
-for_change p c h o [] = Left refl refl
-for_change p c h o (s ∷ ss) = closing (is_close (asked p c s.command))
+-- the operation tells its client of no watch
+abbrev TellsNone : ℕ → Op → Type 0
+TellsNone c o = (id : ℕ) → o ≡ op.TakeWatch c id → ⊥
+
+for_change : (p : Plan) (c : ℕ) (h : List Entry) (o : Op) (ss : List Sent) → TellsNone c o → HeldChange p c h o (looked_for by_result (asks_in p c) ss (client_of p c h))
+for_change p c h o [] n = Left n refl refl
+for_change p c h o (s ∷ ss) n = closing (is_close (asked p c s.command))
   where
     closing : (b : Bool) → HeldChange p c h o (close_if b (record (client_of p c h) { sent = ss }))
     closing true = Emptied refl refl
-    closing false = Left refl refl
+    closing false = Left n refl refl
 
-look_change : (p : Plan) (c : ℕ) (h : List Entry) (o : Op) (r : Option Reading) → HeldChange p c h o (looked by_result (asks_in p c) r (client_of p c h))
-look_change p c h o None = for_change p c h o (client_of p c h).sent
-look_change p c h o (Some r) = registering (registers (asked p c ((client_of p c h).begun + 1)) r.node)
+look_change : (p : Plan) (c : ℕ) (h : List Entry) (o : Op) (r : Option Reading) → TellsNone c o → HeldChange p c h o (looked by_result (asks_in p c) r (client_of p c h))
+look_change p c h o None n = for_change p c h o (client_of p c h).sent n
+look_change p c h o (Some r) n = registering (registers (asked p c ((client_of p c h).begun + 1)) r.node)
   where
     registering : (b : Bool) → HeldChange p c h o (looked_at b r (client_of p c h))
-    registering true = Left refl refl
-    registering false = Left refl refl
+    registering true = Left n refl refl
+    registering false = Left n refl refl
 
-kept_change : (p : Plan) (c k : ℕ) (h : List Entry) (o : Op) (w : Option Outcome) → HeldChange p c h o (settle_with by_result k (settled_as w) (client_of p c h))
-kept_change p c k h o None = Left refl refl
-kept_change p c k h o (Some w) = Left refl refl
+kept_change : (p : Plan) (c k : ℕ) (h : List Entry) (o : Op) (w : Option Outcome) → TellsNone c o → HeldChange p c h o (settle_with by_result k (settled_as w) (client_of p c h))
+kept_change p c k h o None n = Left n refl refl
+kept_change p c k h o (Some w) n = Left n refl refl
 
 pub held_change : (p : Plan) (c : ℕ) (h : List Entry) (o : Op) → client_in o ≡ Some c → HeldChange p c h o (acted_by (sight_of p c h) o (client_of p c h))
 held_change p c h (op.TakeEvicted d k t) q = Emptied refl refl
 held_change p c h (op.TakeWatch d id) q = Dropped id (ap (λ z. op.TakeWatch z id) (some_same d c q)) refl refl
 held_change p c h (op.WatchSet d i id) q = Added i id (ap (λ z. op.WatchSet z i id) (some_same d c q)) refl refl
-held_change p c h (op.LookOk d i m) q = look_change p c h (op.LookOk d i m) (client_of p c h).reading
-held_change p c h (op.TakeRefused d k) q = kept_change p c k h (op.TakeRefused d k) (kept_outcome (sight_of p c h).head)
-held_change p c h (op.TakeLost d k) q = kept_change p c k h (op.TakeLost d k) (kept_outcome (sight_of p c h).head)
-held_change p c h o q = Left refl refl
+held_change p c h (op.LookOk d i m) q = look_change p c h (op.LookOk d i m) (client_of p c h).reading (λ id e. grind arith)
+held_change p c h (op.TakeRefused d k) q = kept_change p c k h (op.TakeRefused d k) (kept_outcome (sight_of p c h).head) (λ id e. grind arith)
+held_change p c h (op.TakeLost d k) q = kept_change p c k h (op.TakeLost d k) (kept_outcome (sight_of p c h).head) (λ id e. grind arith)
+held_change p c h o q = Left (λ id e. grind arith) refl refl

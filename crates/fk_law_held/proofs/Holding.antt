@@ -148,7 +148,7 @@ registered_now p c i id e h l q r = subst (λ o. (w : Watch) × (watch_with id (
     by_has true f = set_already p c id r.watch.path r.watch.kind h (set_number c r.watch.path r.watch.kind (set_watches p h)) l.0 refl r.numbered (subst (λ z. has_id z (set_watches p h) ≡ true) r.its_id f)
     by_has false f = (r.watch, append_with id (set_watches p h) r.watch ∙ (ap (λ o. or_else o (if r.watch.id == id then Some r.watch else None)) (has_none id (set_watches p h) (subst (λ z. has_id z (set_watches p h) ≡ false) r.its_id f)) ∙ rw (r.its_id, itself id) refl), (r.its_session, same_path_self r.watch.path, kind_itself r.watch.kind))
 
-registration : (p : Plan) (c i id : ℕ) (e : Entry) (h : List Entry) → IsHistory p (e ∷ h) → e.op ≡ op.WatchSet c i id → IsRegistration p h c i id
+pub registration : (p : Plan) (c i id : ℕ) (e : Entry) (h : List Entry) → IsHistory p (e ∷ h) → e.op ≡ op.WatchSet c i id → IsRegistration p h c i id
 registration p c i id e h l q = subst (Registers p h) q (watches_are_registered p e h l)
 
 first_now : (p : Plan) (c i id : ℕ) (e : Entry) (h : List Entry) (o : Option ℕ) → e.op ≡ op.WatchSet c i id → first_of p id h ≡ o → (n : ℕ) × (or_else o (registered_in p id h e.op) ≡ Some n)
@@ -167,7 +167,7 @@ abbrev AllAccounted : Plan → ℕ → List Entry → Client Sent → Type 0
 AllAccounted p c h x = (id : ℕ) → contains id x.held ≡ true → IsAccountedFor p c id h
 
 accounted_change : (p : Plan) (c : ℕ) (e : Entry) (h : List Entry) (y : Client Sent) → IsHistory p (e ∷ h) → AllAccounted p c (e ∷ h) (client_of p c h) → HeldChange p c h e.op y → AllAccounted p c (e ∷ h) y
-accounted_change p c e h y l i (Left a b) id f = i id (subst (λ z. contains id z ≡ true) a f)
+accounted_change p c e h y l i (Left n a b) id f = i id (subst (λ z. contains id z ≡ true) a f)
 accounted_change p c e h y l i (Emptied a b) id f = absurd (false≢true (subst (λ z. contains id z ≡ true) a f))
 accounted_change p c e h y l i (Dropped j q a b) id f = i id (without_has id j (client_of p c h).held (subst (λ z. contains id z ≡ true) a f)).0
 accounted_change p c e h y l i (Added k j q a b) id f = either (with_has id j (client_of p c h).held (subst (λ z. contains id z ≡ true) a f))
@@ -185,7 +185,7 @@ held_watches_are_accounted_for p c id (e ∷ h) l f =
 -- Closed clients. --------------------------------------------------------------------------------------
 
 held_nothing : (p : Plan) (c : ℕ) (h : List Entry) (o : Op) (y : Client Sent) → OperationSays p c h o → ((client_of p c h).closed ≡ true → (client_of p c h).held ≡ []) → ((client_of p c h).closed ≡ true → (client_of p c h).reading ≡ None) → HeldChange p c h o y → y.closed ≡ true → y.held ≡ []
-held_nothing p c h o y s i k (Left a b) f = a ∙ i (sym b ∙ f)
+held_nothing p c h o y s i k (Left n a b) f = a ∙ i (sym b ∙ f)
 held_nothing p c h o y s i k (Emptied a b) f = a
 held_nothing p c h o y s i k (Dropped j q a b) f = a ∙ ap (without j) (i (sym b ∙ f))
 held_nothing p c h o y s i k (Added m j q a b) f = let w = (subst (OperationSays p c h) q s).0 in absurd (none_some w.reading (sym (k (sym b ∙ f)) ∙ w.made))

@@ -1,2 +1,4 @@
+pub mod Announcing
 pub mod Changing
 pub mod Holding
+pub mod Telling

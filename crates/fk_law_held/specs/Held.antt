@@ -13,7 +13,7 @@ use Rattle.fk_law_watch.specs.SetWatches.{first_of, set_watch}
 -- What an operation of client c makes of the watches that it holds: it leaves them, drops all with its session,
 -- drops one that it is told of, or holds one more.
 pub data HeldChange (p : Plan) (c : ℕ) (h : List Entry) (o : Op) (y : Client Sent) : Type 0 where
-  Left : y.held ≡ (client_of p c h).held → y.closed ≡ (client_of p c h).closed → HeldChange p c h o y
+  Left : ((id : ℕ) → o ≡ op.TakeWatch c id → ⊥) → y.held ≡ (client_of p c h).held → y.closed ≡ (client_of p c h).closed → HeldChange p c h o y
   Emptied : y.held ≡ [] → y.closed ≡ true → HeldChange p c h o y
   Dropped : (id : ℕ) → o ≡ op.TakeWatch c id → y.held ≡ without id (client_of p c h).held → y.closed ≡ (client_of p c h).closed → HeldChange p c h o y
   Added : (i id : ℕ) → o ≡ op.WatchSet c i id → y.held ≡ with_held id (client_of p c h).held → y.closed ≡ (client_of p c h).closed → HeldChange p c h o y
