@@ -45,7 +45,7 @@ use Rattle.fk_law_held.proofs.Telling.{told_watch_is_of_its_client}
 
 -- A number that is given or kept at a registration hasn't fired. ---------------------------------------
 
-set_unfired : (p : Plan) (id : ℕ) (h : List Entry) (w : Watch) → IsHistory p h → set_watch p id h ≡ Some w → firing_of p id h ≡ None
+pub set_unfired : (p : Plan) (id : ℕ) (h : List Entry) (w : Watch) → IsHistory p h → set_watch p id h ≡ Some w → firing_of p id h ≡ None
 set_unfired p id h w l e =
     let g = set_or_fired_were_given p id h l (inl (ap is_some e)) in
     none (firing_of p id h) (subst (λ o. IsOneOfTwo o (firing_of p id h)) e (watch_is_set_or_fired p id h l g.0 g.1))

@@ -45,7 +45,7 @@ append_keeps : (id : ℕ) (ws : List Watch) (w : Watch) (o : Option Watch) → w
 append_keeps id ws w None e = e
 append_keeps id ws w (Some x) e = cond_both (has_id x.id ws) ws (ws ++ x ∷ []) (λ z. watch_with id z ≡ Some w) (λ _. e) (λ _. append_with id ws x ∙ or_stays (watch_with id ws) (if x.id == id then Some x else None) w e)
 
-set_keeps : (p : Plan) (id : ℕ) (e : Entry) (h : List Entry) (w : Watch) (o : Op) → e.op ≡ o → IsHistory p h → set_watch p id h ≡ Some w → (watch_with id (set_after p h o (set_watches p h)) ≡ Some w) ⊎ ((f : Firing) × (or_else (firing_in p id h o) (firing_of p id h) ≡ Some f) × (f.watch ≡ w))
+pub set_keeps : (p : Plan) (id : ℕ) (e : Entry) (h : List Entry) (w : Watch) (o : Op) → e.op ≡ o → IsHistory p h → set_watch p id h ≡ Some w → (watch_with id (set_after p h o (set_watches p h)) ≡ Some w) ⊎ ((f : Firing) × (or_else (firing_in p id h o) (firing_of p id h) ≡ Some f) × (f.watch ≡ w))
 set_keeps p id e h w (op.WatchSet d i j) q l s = inl (append_keeps id (set_watches p h) w (watch_asked j d (asked p d i)) s)
 set_keeps p id e h w (op.SweepOk n t k) q l s = either (sweep_keeps p id n t k h w (first_taken w.path w.kind (touches_of_push p t h)) l s refl)
   where

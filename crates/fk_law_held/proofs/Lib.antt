@@ -1,4 +1,5 @@
 pub mod Announcing
 pub mod Changing
+pub mod Differing
 pub mod Holding
 pub mod Telling

@@ -1,16 +1,16 @@
 -- What a client is told of the watches that it holds.
-use Rattle.std.specs.Prelude.{◌≡◌, ℕ, ◌<◌, ◌⊎◌, true, List, [], ◌∷◌, Some}
+use Rattle.std.specs.Prelude.{◌≡◌, ℕ, ◌+◌, ◌<◌, ◌⊎◌, true, List, [], ◌∷◌, Some}
 use Rattle.fk_base.specs.Path.{same_path}
 use Rattle.fk_tree.specs.Watch.{same_kind}
 use Rattle.fk_print.specs.declared.entry.Entry.{Entry}
 use Rattle.fk_print.specs.declared.op.Op.TheVariants as op
-use Rattle.fk_spec.specs.Plan.{Plan}
+use Rattle.fk_spec.specs.Plan.{Plan, asked}
 use Rattle.fk_spec.specs.Shown.{seen_by}
 use Rattle.fk_spec.specs.Settling.{mark_of}
 use Rattle.fk_spec.specs.Lanes as lanes
 use Rattle.fk_spec.specs.Lanes.{Message, inbox_of}
 use Rattle.fk_spec.specs.Watches.{Firing, Watch, firing_of}
-use Rattle.fk_spec.specs.Client.{client_of, contains, number_read, Reading}
+use Rattle.fk_spec.specs.Client.{client_of, contains, number_read, registers, Reading}
 use Rattle.fk_spec.specs.Next.{IsHistory}
 use Rattle.fk_law.specs.Due.{IsDue}
 use Rattle.fk_law_watch.specs.FirstNumbers.{ReadsAreReads}
@@ -45,3 +45,7 @@ abbrev pub HeldWatchesDiffer : Type 0
 HeldWatchesDiffer =
     (p : Plan) (c i j : ℕ) (h : List Entry) (v w : Watch) → ReadsAreReads p → IsHistory p h → contains i (client_of p c h).held ≡ true → contains j (client_of p c h).held ≡ true → known_watch p i h ≡ Some v → known_watch p j h ≡ Some w
     → same_path v.path w.path ≡ true → same_kind v.kind w.kind ≡ true → i ≡ j
+
+-- A read that waits for its registration asks for a watch, and found what that wants.
+abbrev pub WaitingReadRegisters : Type 0
+WaitingReadRegisters = (p : Plan) (c : ℕ) (h : List Entry) (r : Reading) → ReadsAreReads p → IsHistory p h → (client_of p c h).reading ≡ Some r → r.looked ≡ true → registers (asked p c ((client_of p c h).begun + 1)) r.node ≡ true

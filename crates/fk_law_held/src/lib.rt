@@ -8,4 +8,7 @@ mod held_watches;
 pub use announced_watches::{
     inbox_tells_of_announced_watches, looks_pass_no_held_watch, told_watch_is_of_its_client,
 };
-pub use held_watches::{closed_clients_hold_nothing, held_watches_are_accounted_for};
+pub use held_watches::{
+    closed_clients_hold_nothing, held_watches_are_accounted_for, held_watches_differ,
+    set_watches_are_held, waiting_read_registers,
+};
