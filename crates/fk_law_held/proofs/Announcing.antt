@@ -61,7 +61,7 @@ has_set p id h e = by_with (watch_with id (set_watches p h)) refl (sym (has_is i
     by_with None f g = absurd (false≢true g)
     by_with (Some v) f g = (v, f)
 
-registered_unfired : (p : Plan) (c i id : ℕ) (e : Entry) (h : List Entry) → IsHistory p (e ∷ h) → e.op ≡ op.WatchSet c i id → firing_of p id h ≡ None
+pub registered_unfired : (p : Plan) (c i id : ℕ) (e : Entry) (h : List Entry) → IsHistory p (e ∷ h) → e.op ≡ op.WatchSet c i id → firing_of p id h ≡ None
 registered_unfired p c i id e h l q = let r = registration p c i id e h l q in by_number r (set_number c r.watch.path r.watch.kind (set_watches p h)) refl r.numbered
   where
     unknown : (o : Option Firing) → (is_some o ≡ true → ⊥) → o ≡ None

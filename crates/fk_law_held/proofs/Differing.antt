@@ -73,7 +73,7 @@ path_through : (a b c : PathNames) → same_path a b ≡ true → same_path a c 
 path_through a b c e f = subst (λ z. same_path z c ≡ true) (same_path_is a b e) f
 
 -- the known watch of an unfired number is set
-unfired_set : (p : Plan) (id : ℕ) (h : List Entry) (w : Watch) → known_watch p id h ≡ Some w → firing_of p id h ≡ None → set_watch p id h ≡ Some w
+pub unfired_set : (p : Plan) (id : ℕ) (h : List Entry) (w : Watch) → known_watch p id h ≡ Some w → firing_of p id h ≡ None → set_watch p id h ≡ Some w
 unfired_set p id h w k q = by_set (set_watch p id h) refl k
   where
     by_set : (o : Option Watch) → set_watch p id h ≡ o → or_else o (fired_watch (firing_of p id h)) ≡ Some w → set_watch p id h ≡ Some w
@@ -196,7 +196,7 @@ abbrev HoldsSet : Plan → ℕ → ℕ → List Entry → Watch → Client Sent 
 HoldsSet p c id h w x = x.closed ≡ false → contains id x.held ≡ true
 
 -- who is told of a watch is told of one that fired
-told_fired : (p : Plan) (c j : ℕ) (e : Entry) (h : List Entry) → IsHistory p (e ∷ h) → e.op ≡ op.TakeWatch c j → (f : Firing) × (firing_of p j h ≡ Some f)
+pub told_fired : (p : Plan) (c j : ℕ) (e : Entry) (h : List Entry) → IsHistory p (e ∷ h) → e.op ≡ op.TakeWatch c j → (f : Firing) × (firing_of p j h ≡ Some f)
 told_fired p c j e h l q =
     let d : IsDue p h (op.TakeWatch c j) = subst (IsDue p h) q (due p e h l) in
     let a = announced_has_fired p j h l.0 (first_true p c h (inbox_of p c h) d.0 (lanes.Watch j) d.1 (inbox_messages p c h l.0)) in

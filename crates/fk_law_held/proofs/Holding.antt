@@ -155,7 +155,7 @@ first_now : (p : Plan) (c i id : ℕ) (e : Entry) (h : List Entry) (o : Option �
 first_now p c i id e h (Some n) q f = (n, refl)
 first_now p c i id e h None q f = (number_of_read p c h, subst (λ o. registered_in p id h o ≡ Some (number_of_read p c h)) (sym q) (rw (itself id) refl))
 
-accounted_now : (p : Plan) (c i id : ℕ) (e : Entry) (h : List Entry) → IsHistory p (e ∷ h) → e.op ≡ op.WatchSet c i id → IsAccountedFor p c id (e ∷ h)
+pub accounted_now : (p : Plan) (c i id : ℕ) (e : Entry) (h : List Entry) → IsHistory p (e ∷ h) → e.op ≡ op.WatchSet c i id → IsAccountedFor p c id (e ∷ h)
 accounted_now p c i id e h l q =
     let x = registered_now p c i id e h l q (registration p c i id e h l q) in
     let n = first_now p c i id e h (first_of p id h) q refl in

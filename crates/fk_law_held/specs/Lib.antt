@@ -1,2 +1,3 @@
 pub mod Announced
 pub mod Held
+pub mod Matching

@@ -168,7 +168,7 @@ sought_shown p h n (Settled (Passed loss)) e = absurd (none_some n e)
 sought_shown p h n (Plain cd) e = absurd (none_some n e)
 sought_shown p h n (Expired at) e = absurd (none_some n e)
 
-first_sought : (s : Sent) (i n : ℕ) → target_with s.command (number_looked_for s.result) ≡ Some (record { command = i; number = n }) → number_looked_for s.result ≡ Some n
+pub first_sought : (s : Sent) (i n : ℕ) → target_with s.command (number_looked_for s.result) ≡ Some (record { command = i; number = n }) → number_looked_for s.result ≡ Some n
 first_sought s i n q = by_number (number_looked_for s.result) q
   where
     by_number : (o : Option ℕ) → target_with s.command o ≡ Some (record { command = i; number = n }) → o ≡ Some n
