@@ -270,7 +270,7 @@ fired_before p id e h f l q = by_old (firing_of p id h) refl
 abbrev CleanAt : Plan → ℕ → List Entry → ℕ → ℕ → Reading → Type 0
 CleanAt p c h seen begun r = r.looked ≡ true → (id : ℕ) (f : Firing) → contains id (client_of p c h).held ≡ true → firing_of p id h ≡ Some f → number_read seen r < f.tx
 
-read_number : (p : Plan) (c : ℕ) (h : List Entry) (r : Reading) → ReadsAreReads p → IsHistory p h → (client_of p c h).reading ≡ Some r → ((client_of p c h).sent ≡ []) × (r.looked ≡ true → number_read (seen_by c h) r ≤ mark_of h)
+pub read_number : (p : Plan) (c : ℕ) (h : List Entry) (r : Reading) → ReadsAreReads p → IsHistory p h → (client_of p c h).reading ≡ Some r → ((client_of p c h).sent ≡ []) × (r.looked ≡ true → number_read (seen_by c h) r ≤ mark_of h)
 read_number p c h r v l q = subst (ReadSo (client_of p c h).sent (seen_by c h) (mark_of h)) q (reads_so p c h v l)
 
 clean_old : (p : Plan) (c : ℕ) (e : Entry) (h : List Entry) (r : Reading) → ReadsAreReads p → IsHistory p (e ∷ h) → (client_of p c h).reading ≡ Some r → CleanAt p c h (seen_by c h) (client_of p c h).begun r → CleanAt p c (e ∷ h) (seen_by c h) (client_of p c h).begun r
