@@ -1,6 +1,6 @@
 -- How watches fire by the transaction lines.
-use Rattle.std.specs.Prelude.{nat_lt, nat_le}
-use Rattle.std.proofs.Common.{◌≡◌, ℕ, zero, suc, ◌<◌, ◌≤◌, ◌++◌, if◌then◌else◌, Bool, true, false, List, [], ◌∷◌, refl, sym, ◌∙◌, ap, subst, arith, Option, Some, None}
+use Rattle.std.specs.Prelude.{nat_lt, nat_le, nat_eq}
+use Rattle.std.proofs.Common.{◌≡◌, ℕ, zero, suc, ◌<◌, ◌≤◌, ◌++◌, if◌then◌else◌, Bool, true, false, List, [], ◌∷◌, refl, sym, ◌∙◌, ap, subst, arith, Option, Some, None, ◌≢◌}
 use Rattle.std.proofs.lemmas.Bool.Decides.{nat_tests}
 use Rattle.fk_tree.specs.Fill.{after_part, fill_made, fill_parts}
 use Rattle.fk_tree.specs.Touch.{once, parts_touches, set_touches, touches, touches_of, with_parent_touched}
@@ -31,15 +31,18 @@ use Rattle.fk_law.proofs.Closes.{commit_fits_at_its_number}
 use Rattle.fk_law.proofs.Leading.{mark_behind_sweep, swept_up_to_the_sweep}
 use Rattle.fk_law.proofs.Numbers.{above, at_most}
 use Rattle.fk_law.proofs.Printing.{txs_are_the_commits}
-use Rattle.fk_law.proofs.Sending.{tx_is, was_committed}
-use Rattle.fk_law_watch.specs.SetWatches.{taken_of}
-use Rattle.fk_law_watch.proofs.SetWatches.{fired_watch_fired_at_its_first_change, set_watch_saw_no_change}
+use Rattle.fk_law.proofs.Sending.{tx_is, was_committed, committed_is_filled}
+use Rattle.fk_law_watch.specs.SetWatches.{taken_of, first_of}
+use Rattle.fk_law_watch.proofs.SetWatches.{fired_watch_fired_at_its_first_change, set_watch_saw_no_change, or_stays}
 use Rattle.fk_law_client.proofs.Messages.{none_some, some_same}
-use Rattle.fk_law_held.specs.Firings.{FiredByLinesHasFired}
+use Rattle.fk_law_held.specs.Firings.{FiredByLinesHasFired, FiringStandsInTheLines}
 use Rattle.fk_law_held.specs.Matching.{IsOfHeld}
 use Rattle.fk_law_held.proofs.Announcing.{known_fired}
 use Rattle.fk_law_held.proofs.Differing.{unfired_set}
 use Rattle.fk_law_held.proofs.Following.{held_by_lines_is_held}
+use Rattle.fk_law_watch.proofs.FirstNumbers.{fires_beyond_its_first}
+use Rattle.fk_law_watch.proofs.Sweeps.{swept_committed}
+use Rattle.fk_law_reply.specs.Plans.{HasFittingVerbs}
 
 -- What a line touches. ---------------------------------------------------------------------------------
 
@@ -125,3 +128,64 @@ fired_by_lines_has_fired p c h w g v l i q =
     let x = (held_by_lines_is_held p c h v l).back w i in
     let f = fired_low p h (client_of p c h).held w g x l (found p h w (mark_of h) g l (ap (firing_among w) (sym (txs_are_the_commits p h l)) ∙ q)) in
     record { id = x.id; holds = x.holds; firing = f.0; fired = f.1; before = f.2 }
+
+-- A firing stands in the lines. ------------------------------------------------------------------------
+
+-- the holding of a watch that fired so, whose first number is n
+abbrev held_as : Firing → ℕ → Holding
+held_as f n = record { path = f.watch.path; kind = f.watch.kind; at = n }
+
+committed_swept : (p : Plan) (t : ℕ) (h : List Entry) → IsHistory p h → is_committed t h ≡ true → t ≤ mark_of h → is_swept t h ≡ true
+committed_swept p t h l c b = swept_up_to_the_sweep p t h l c (let m = (mark_behind_sweep p h l).0 in omega (arith, b, m))
+
+no_line : (p : Plan) (id n m : ℕ) (h : List Entry) (f : Firing) (a : Applied) → IsHistory p h → firing_of p id h ≡ Some f → first_of p id h ≡ Some n → f.tx ≤ mark_of h → committed_as p (suc m) h ≡ Some a → suc m < f.tx → fired_in (held_as f n) (printed_of a) ≡ None
+no_line p id n m h f a l e g b q k = line_fires p m h a (held_as f n) l q ∙ by_number (nat_lt n (suc m)) refl
+  where
+    by_number : (c : Bool) → nat_lt n (suc m) ≡ c → (if c then fired_with (suc m) (first_taken f.watch.path f.watch.kind (touches_of_push p (suc m) h)) else None) ≡ None
+    by_number false x = refl
+    by_number true x =
+        let s = fired_watch_fired_at_its_first_change p id h f l e in
+        let i = some_same s.first n (sym s.registered ∙ g) in
+        let d : n < suc m = grind (arith, nat_tests) in
+        ap (fired_with (suc m)) (s.none_before (suc m) (committed_swept p (suc m) h l (was_committed p (suc m) h a q) (omega (arith, b, k))) (omega (arith, i, d)) k)
+
+none_step : (p : Plan) (id n m : ℕ) (h : List Entry) (f : Firing) (x : Option Applied) → IsHistory p h → firing_of p id h ≡ Some f → first_of p id h ≡ Some n → f.tx ≤ mark_of h → committed_as p (suc m) h ≡ x → suc m < f.tx → firing_among (held_as f n) (all_printed (numbered m (committed_of p h))) ≡ None → firing_among (held_as f n) (all_printed (with_some x (numbered m (committed_of p h)))) ≡ None
+none_step p id n m h f None l e g b q k i = i
+none_step p id n m h f (Some a) l e g b q k i = ap (λ o. or_else o (fired_in (held_as f n) (printed_of a))) i ∙ no_line p id n m h f a l e g b q k
+
+none_below : (p : Plan) (id n m : ℕ) (h : List Entry) (f : Firing) → IsHistory p h → firing_of p id h ≡ Some f → first_of p id h ≡ Some n → f.tx ≤ mark_of h → m < f.tx → firing_among (held_as f n) (all_printed (numbered m (committed_of p h))) ≡ None
+none_below p id n zero h f l e g b k = refl
+none_below p id n (suc m) h f l e g b k = none_step p id n m h f (committed_as p (suc m) h) l e g b refl k (none_below p id n m h f l e g b (omega (arith, k)))
+
+stays_step : (w : Holding) (x : Option Applied) (done : List Applied) (g : Fired) → firing_among w (all_printed done) ≡ Some g → firing_among w (all_printed (with_some x done)) ≡ Some g
+stays_step w None done g i = i
+stays_step w (Some a) done g i = or_stays (firing_among w (all_printed done)) (fired_in w (printed_of a)) g i
+
+its_line : (p : Plan) (id n m : ℕ) (h : List Entry) (f : Firing) (x : Option Applied) → HasFittingVerbs p → IsHistory p h → firing_of p id h ≡ Some f → first_of p id h ≡ Some n → f.tx ≤ mark_of h → f.tx ≡ suc m → committed_as p (suc m) h ≡ x → (a : Applied) → x ≡ Some a → firing_among (held_as f n) (all_printed (with_some x (numbered m (committed_of p h)))) ≡ Some (record { tx = f.tx; change = f.change })
+its_line p id n m h f None v l e g b s q a r = absurd (none_some a r)
+its_line p id n m h f (Some y) v l e g b s q a r =
+    ap (λ o. or_else o (fired_in (held_as f n) (printed_of y))) (none_below p id n m h f l e g b (omega (arith, s)))
+    ∙ (line_fires p m h y (held_as f n) l q
+    ∙ (subst (λ t. (if nat_lt n t then fired_with t (first_taken f.watch.path f.watch.kind (touches_of_push p t h)) else None) ≡ Some (record { tx = f.tx; change = f.change })) s (rw (less, (fired_watch_fired_at_its_first_change p id h f l e).shows) refl)))
+  where
+    less : nat_lt n f.tx ≡ true
+    less = let d = fires_beyond_its_first p id n h f v.reads l e g in grind (arith, nat_tests)
+
+stands_from : (p : Plan) (id n m : ℕ) (h : List Entry) (f : Firing) → HasFittingVerbs p → IsHistory p h → firing_of p id h ≡ Some f → first_of p id h ≡ Some n → f.tx ≤ mark_of h → f.tx ≤ m → 1 ≤ f.tx → firing_among (held_as f n) (all_printed (numbered m (committed_of p h))) ≡ Some (record { tx = f.tx; change = f.change })
+stands_from p id n zero h f v l e g b k d = absurd (omega (arith, k, d))
+stands_from p id n (suc m) h f v l e g b k d = by_last (nat_eq f.tx (suc m)) refl (λ x. stands_from p id n m h f v l e g b x d)
+  where
+    own : f.tx ≡ suc m → firing_among (held_as f n) (all_printed (with_some (committed_as p (suc m) h) (numbered m (committed_of p h)))) ≡ Some (record { tx = f.tx; change = f.change })
+    own s =
+        let c = swept_committed p f.tx h l (fired_watch_fired_at_its_first_change p id h f l e).swept in
+        let a = committed_is_filled p (suc m) h l (subst (λ t. is_committed t h ≡ true) s c) in
+        its_line p id n m h f (committed_as p (suc m) h) v l e g b s refl a.0 a.1
+
+    by_last : (z : Bool) → nat_eq f.tx (suc m) ≡ z → (f.tx ≤ m → firing_among (held_as f n) (all_printed (numbered m (committed_of p h))) ≡ Some (record { tx = f.tx; change = f.change })) → firing_among (held_as f n) (all_printed (with_some (committed_as p (suc m) h) (numbered m (committed_of p h)))) ≡ Some (record { tx = f.tx; change = f.change })
+    by_last true x i = own (grind (arith, nat_tests))
+    by_last false x i = let s : f.tx ≢ suc m = grind (arith, nat_tests) in stays_step (held_as f n) (committed_as p (suc m) h) (numbered m (committed_of p h)) (record { tx = f.tx; change = f.change }) (i (omega (arith, k, s)))
+
+pub firing_stands_in_the_lines : FiringStandsInTheLines
+firing_stands_in_the_lines p id n h f v l e g b =
+    ap (firing_among (held_as f n)) (txs_are_the_commits p h l)
+    ∙ stands_from p id n (mark_of h) h f v l e g b b (let d = fires_beyond_its_first p id n h f v.reads l e g in omega (arith, d))
