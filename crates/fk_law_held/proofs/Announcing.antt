@@ -166,7 +166,7 @@ not_its c d n = by_eq (d == c) refl
     by_eq true f = absurd (n (ap Some (same_number d c f)))
     by_eq false f = refl
 
-takes_not : (c : ℕ) (o : Op) → (client_in o ≡ Some c → ⊥) → takes c o ≡ false
+pub takes_not : (c : ℕ) (o : Op) → (client_in o ≡ Some c → ⊥) → takes c o ≡ false
 takes_not c (op.TakeDone d k t) n = not_its c d n
 takes_not c (op.TakeEvicted d k t) n = not_its c d n
 takes_not c (op.TakeRefused d k) n = not_its c d n

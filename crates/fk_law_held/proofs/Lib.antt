@@ -4,6 +4,8 @@ pub mod Differing
 pub mod Firings
 pub mod Following
 pub mod Holding
+pub mod Noticing
+pub mod Ordering
 pub mod Passing
 pub mod Telling
 pub mod Matching

@@ -112,7 +112,7 @@ readies_kept : (p : Plan) (c : ℕ) (h : List Entry) (ss : List Sent) (b : List 
 readies_kept p c h [] b = tt
 readies_kept p c h (s ∷ ss) b = cond_both (is_ready s.result) (s ∷ ready_first by_result ss) [] (λ z. EachAfter (WatchesKept p) (reply_lines (wording p c h) z) b) (λ e. (ready_kept p c h s b e, readies_kept p c h ss (reply_line (wording p c h) s ∷ b))) (λ _. tt)
 
-each_append : (P : Line → List Line → Type 0) (xs ys b : List Line) → EachAfter P xs b → ((z : List Line) → EachAfter P ys z) → EachAfter P (xs ++ ys) b
+pub each_append : (P : Line → List Line → Type 0) (xs ys b : List Line) → EachAfter P xs b → ((z : List Line) → EachAfter P ys z) → EachAfter P (xs ++ ys) b
 each_append P [] ys b i f = f b
 each_append P (x ∷ xs) ys b i f = (i.0, each_append P xs ys (x ∷ b) i.1 f)
 

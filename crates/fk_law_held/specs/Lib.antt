@@ -2,3 +2,4 @@ pub mod Announced
 pub mod Firings
 pub mod Held
 pub mod Matching
+pub mod Notices
