@@ -1,0 +1,12 @@
+pub mod Announcing
+pub mod Changing
+pub mod Differing
+pub mod Firings
+pub mod Following
+pub mod Holding
+pub mod Noticing
+pub mod Ordering
+pub mod Passing
+pub mod Telling
+pub mod Matching
+pub mod Lines

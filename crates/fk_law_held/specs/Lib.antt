@@ -1,0 +1,5 @@
+pub mod Announced
+pub mod Firings
+pub mod Held
+pub mod Matching
+pub mod Notices
