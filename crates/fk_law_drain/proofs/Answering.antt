@@ -24,7 +24,8 @@ use Rattle.fk_law_client.proofs.Lines.{lines_are}
 use Rattle.fk_law_client.proofs.Operating.{client_operations_say}
 use Rattle.fk_law_drain.specs.Answering.{keeps_command, BegunAreAnsweredOrKept}
 
-self : (n : ℕ) → (n == n) ≡ true
+-- a number is itself
+pub self : (n : ℕ) → (n == n) ≡ true
 self n = grind (arith, nat_tests)
 
 or_regroup : (a b c : Bool) → ((a || b) || c) ≡ (a || (b || c))

@@ -3,5 +3,7 @@
 #![tactic(auto)]
 
 mod begun_commands;
+mod delivered_outcomes;
 
 pub use begun_commands::begun_are_answered_or_kept;
+pub use delivered_outcomes::{done_push_is_replied, removed_message_is_replied_or_committed};
