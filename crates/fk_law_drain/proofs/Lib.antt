@@ -1,3 +1,5 @@
 pub mod Answering
 pub mod Awaiting
 pub mod Delivering
+pub mod Drained
+pub mod Evicting

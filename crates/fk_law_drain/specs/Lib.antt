@@ -1,2 +1,3 @@
 pub mod Answering
 pub mod Delivering
+pub mod Drained
