@@ -22,11 +22,8 @@ use Rattle.fk_law_client.specs.Operations.{OperationSays}
 use Rattle.fk_law_client.proofs.Kept.{client_after}
 use Rattle.fk_law_client.proofs.Lines.{lines_are}
 use Rattle.fk_law_client.proofs.Operating.{client_operations_say}
+use Rattle.fk_law_reply.proofs.Ledger.{self}
 use Rattle.fk_law_drain.specs.Answering.{keeps_command, BegunAreAnsweredOrKept}
-
--- a number is itself
-pub self : (n : ℕ) → (n == n) ≡ true
-self n = grind (arith, nat_tests)
 
 or_regroup : (a b c : Bool) → ((a || b) || c) ≡ (a || (b || c))
 or_regroup true b c = refl

@@ -36,8 +36,8 @@ use Rattle.fk_law_client.proofs.Kept.{among_unready, kept_commands_have_their_so
 use Rattle.fk_law_client.proofs.Messages.{none_some, same_number, some_same}
 use Rattle.fk_law_client.proofs.Operating.{client_operations_say}
 use Rattle.fk_law_client.proofs.Tracking.{sent_tracked}
+use Rattle.fk_law_reply.proofs.Ledger.{self}
 use Rattle.fk_law_drain.specs.Delivering.{IsReplied, NoCommandEvicts, awaits_outcome, is_outcome_told, tells_outcome}
-use Rattle.fk_law_drain.proofs.Answering.{self}
 
 -- What is awaited. -------------------------------------------------------------------------------------
 

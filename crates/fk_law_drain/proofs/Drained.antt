@@ -32,10 +32,11 @@ use Rattle.fk_law_client.proofs.Kept.{client_after}
 use Rattle.fk_law_client.proofs.Messages.{none_some, some_same}
 use Rattle.fk_law_reply.specs.Reads.{IsMadeRead}
 use Rattle.fk_law_reply.proofs.Finding.{reads_show_the_tree}
+use Rattle.fk_law_reply.proofs.Ledger.{self}
 use Rattle.fk_law_drain.specs.Answering.{keeps_command}
 use Rattle.fk_law_drain.specs.Delivering.{awaits_outcome, is_outcome_told, IsReplied, IsUnderWay, NoCommandEvicts}
 use Rattle.fk_law_drain.specs.Drained.{DrainedIsAnswered, DrainedDeploymentIsAnswered, ScheduledIsAnswered}
-use Rattle.fk_law_drain.proofs.Answering.{begun_are_answered_or_kept, self}
+use Rattle.fk_law_drain.proofs.Answering.{begun_are_answered_or_kept}
 use Rattle.fk_law_drain.proofs.Awaiting.{open_are_given}
 use Rattle.fk_law_drain.proofs.Delivering.{removed_message_is_replied_or_committed}
 use Rattle.fk_law_drain.proofs.Evicting.{deployments_ask_no_eviction}

@@ -141,7 +141,8 @@ entered_stays p c begun e h s l b x = record {
 entered_told : (p : Plan) (c begun : ℕ) (h : List Entry) (s : Sent) (o : Outcome) → IsEntered p c begun h s → IsEntered p c begun h (record s { result = Settled o })
 entered_told p c begun h s o x = record { is_begun = x.is_begun; ask = x.ask; is_asked = x.is_asked; number = x.number; writes = x.writes; cause = tt }
 
-self : (n : ℕ) → (n == n) ≡ true
+-- a number is itself
+pub self : (n : ℕ) → (n == n) ≡ true
 self n = grind (arith, nat_tests)
 
 -- a command that is sent now
