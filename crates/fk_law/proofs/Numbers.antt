@@ -1,5 +1,5 @@
 -- Comparing numbers.
-use Rattle.std.specs.Prelude.{nat_le}
+use Rattle.std.specs.Prelude.{◌==◌, nat_le}
 use Rattle.std.proofs.Common.{◌≡◌, ℕ, ◌<◌, ◌≤◌, Bool, true, false, refl, arith}
 use Rattle.std.proofs.lemmas.Bool.Decides.{nat_tests}
 
@@ -15,3 +15,9 @@ less_or_not a b f = by_test (nat_le b a) refl
     by_test : (c : Bool) → nat_le b a ≡ c → a < b
     by_test true e = absurd (f (at_most b a e))
     by_test false e = above b a e
+
+pub tested : (a b : ℕ) → a ≤ b → nat_le a b ≡ true
+tested a b e = grind (arith, nat_tests)
+
+pub itself : (n : ℕ) → (n == n) ≡ true
+itself n = grind (arith, nat_tests)

@@ -51,7 +51,7 @@ use Rattle.fk_law.proofs.Numbered.{numbered_leave_the_same, numbered_tree_is_sho
 
 -- Closed sessions. ------------------------------------------------------------------------------------
 
-closed_one : (n c : ℕ) (a : Applied) (done : List Applied) → (view_after (up_to n done)).closed c ≡ true → (view_after (up_to n (a ∷ done))).closed c ≡ true
+pub closed_one : (n c : ℕ) (a : Applied) (done : List Applied) → (view_after (up_to n done)).closed c ≡ true → (view_after (up_to n (a ∷ done))).closed c ≡ true
 closed_one n c a done i = by_number (nat_le a.tx n)
   where
     either : (x y z : Bool) → z ≡ true → cond x (y || z) z ≡ true

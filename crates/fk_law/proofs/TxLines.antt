@@ -1,6 +1,6 @@
 -- The transaction line of a request, and the numbers of the lines.
 use Rattle.std.specs.Prelude.{nat_eq}
-use Rattle.std.proofs.Common.{◌≡◌, ◌≢◌, ℕ, zero, suc, ◌≤◌, Bool, true, false, List, [], ◌∷◌, max, refl, sym, ◌∙◌, ap, subst, arith, Option, Some, None}
+use Rattle.std.proofs.Common.{◌≡◌, ◌≢◌, ℕ, zero, suc, ◌≤◌, Bool, true, false, List, [], ◌∷◌, max, refl, sym, ◌∙◌, ap, subst, arith, Option, Some, None, if◌then◌else◌}
 use Rattle.std.proofs.lemmas.Bool.{false≢true, cond_both}
 use Rattle.std.proofs.lemmas.Bool.Decides.{nat_tests}
 use Rattle.fk_base.specs.Path.{PathNames, same_path}
@@ -16,12 +16,12 @@ use Rattle.fk_spec.specs.Leader as leader
 use Rattle.fk_spec.specs.Next.{IsHistory, printed_of}
 use Rattle.fk_spec.specs.Promises.{is_tx_for, tx_for}
 use Rattle.fk_spec.specs.Published.{published_as}
-use Rattle.fk_spec.specs.PublicLines.{greatest_tx}
+use Rattle.fk_spec.specs.PublicLines.{greatest_tx, tx_with}
 use Rattle.fk_law.specs.Due.{IsDue, IsApplied, IsPushOf}
 use Rattle.fk_law.specs.LeaderLane.{Stands}
 use Rattle.fk_law.specs.Numbered.{with_some, numbered}
 use Rattle.fk_law.specs.Publishing.{all_printed}
-use Rattle.fk_law.specs.TxLines.{PublishedAsCommitted, GreatestTxIsTheMark, PublishedRequestHasItsLine, UncommittedRequestHasNoLine, StampsAreSwept}
+use Rattle.fk_law.specs.TxLines.{PublishedAsCommitted, GreatestTxIsTheMark, PublishedRequestHasItsLine, UncommittedRequestHasNoLine, StampsAreSwept, PublishedPushHasItsLine}
 use Rattle.fk_law.proofs.Due.{due}
 use Rattle.fk_law.proofs.Pushing.{push_bound}
 use Rattle.fk_law.proofs.Committing.{committed_push, its_push_is_one}
@@ -144,6 +144,33 @@ uncommitted_request_has_no_line p c k h l f = ap (tx_for c k) (txs_are_the_commi
         let z = committed_push p t h l (was_committed p t h b q) in
         let g = its_push_is_one t x.0 c k z.function z.session z.k h x.1 z.is_of in
         f (subst IsApplied (sym (subst (λ y. outcome_of c y h ≡ Some (Committed t)) (sym g.2) (subst (λ y. outcome_of y z.k h ≡ Some (Committed t)) (sym g.1) z.outcome))) tt)
+
+-- The line of a push. ---------------------------------------------------------------------------------
+
+with_step : (p : Plan) (h : List Entry) (t m : ℕ) (a : Applied) (x : Option Applied) → committed_as p (suc m) h ≡ x → committed_as p t h ≡ Some a → t ≤ suc m → (t ≤ m → tx_with t (all_printed (numbered m (committed_of p h))) ≡ Some (printed_of a)) → tx_with t (all_printed (with_some x (numbered m (committed_of p h)))) ≡ Some (printed_of a)
+with_step p h t m a None e q b i = i (by_last (nat_eq t (suc m)) refl)
+  where
+    none : (u v : ℕ) → u ≡ v → committed_as p u h ≡ Some a → committed_as p v h ≡ None → ⊥
+    none u v w y z = let g : committed_as p v h ≡ Some a = subst (λ n. committed_as p n h ≡ Some a) w y in grind arith
+
+    by_last : (z : Bool) → nat_eq t (suc m) ≡ z → t ≤ m
+    by_last true w = absurd (none t (suc m) (grind (arith, nat_tests)) q e)
+    by_last false w = let g : t ≢ suc m = grind (arith, nat_tests) in omega (arith, b, g)
+with_step p h t m a (Some y) e q b i = by_number (nat_eq y.tx t) refl
+  where
+    number : y.tx ≡ suc m
+    number = tx_is (suc m) (committed_of p h) y e
+
+    by_number : (z : Bool) → nat_eq y.tx t ≡ z → (if z then Some (printed_of y) else tx_with t (all_printed (numbered m (committed_of p h)))) ≡ Some (printed_of a)
+    by_number true w = let n = number in let s : suc m ≡ t = grind (arith, nat_tests) in ap (λ v. Some (printed_of v)) (some_same y a (sym e ∙ subst (λ n. committed_as p n h ≡ Some a) (sym s) q))
+    by_number false w = let n = number in let s : t ≢ suc m = grind (arith, nat_tests) in i (omega (arith, b, s))
+
+with_for : (p : Plan) (h : List Entry) (t m : ℕ) (a : Applied) → committed_as p t h ≡ Some a → 1 ≤ t → t ≤ m → tx_with t (all_printed (numbered m (committed_of p h))) ≡ Some (printed_of a)
+with_for p h t zero a q d b = absurd (omega (arith, b, d))
+with_for p h t (suc m) a q d b = with_step p h t m a (committed_as p (suc m) h) refl q b (λ v. with_for p h t m a q d v)
+
+pub published_push_has_its_line : PublishedPushHasItsLine
+published_push_has_its_line p t h a l q b = let x = (of_push p t h a l q).is_of in ap (tx_with t) (txs_are_the_commits p h l) ∙ with_for p h t (mark_of h) a q (push_bound p t h x.push l x.pushed).1 b
 
 -- Stamps. ---------------------------------------------------------------------------------------------
 

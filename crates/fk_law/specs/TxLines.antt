@@ -9,7 +9,7 @@ use Rattle.fk_spec.specs.Stored.{committed_as, stamp_of}
 use Rattle.fk_spec.specs.Next.{IsHistory, printed_of}
 use Rattle.fk_spec.specs.Promises.{tx_for}
 use Rattle.fk_spec.specs.Published.{published_as}
-use Rattle.fk_spec.specs.PublicLines.{greatest_tx, txs_of}
+use Rattle.fk_spec.specs.PublicLines.{greatest_tx, tx_with, txs_of}
 use Rattle.fk_law.specs.Due.{IsApplied, IsPushOf}
 
 -- A committed push up to the mark is published as it was committed.
@@ -19,6 +19,10 @@ PublishedAsCommitted = (p : Plan) (t : ℕ) (h : List Entry) (a : Applied) → I
 -- The greatest number of a transaction line is the mark.
 abbrev pub GreatestTxIsTheMark : Type 0
 GreatestTxIsTheMark = (p : Plan) (h : List Entry) → IsHistory p h → greatest_tx (txs_of h) ≡ mark_of h
+
+-- A committed push up to the mark has its transaction line.
+abbrev pub PublishedPushHasItsLine : Type 0
+PublishedPushHasItsLine = (p : Plan) (t : ℕ) (h : List Entry) (a : Applied) → IsHistory p h → committed_as p t h ≡ Some a → t ≤ mark_of h → tx_with t (txs_of h) ≡ Some (printed_of a)
 
 -- A request whose push was committed and is at most the mark has its transaction line.
 abbrev pub PublishedRequestHasItsLine : Type 0

@@ -1,8 +1,9 @@
-ghost use Rattle.fk_law.specs.TxLines.{GreatestTxIsTheMark, PublishedAsCommitted, PublishedRequestHasItsLine, StampsAreSwept, UncommittedRequestHasNoLine};
+ghost use Rattle.fk_law.specs.TxLines.{GreatestTxIsTheMark, PublishedAsCommitted, PublishedPushHasItsLine, PublishedRequestHasItsLine, StampsAreSwept, UncommittedRequestHasNoLine};
 
-/// A law: a committed push up to the mark is published as it was committed.
+/// A law: a committed push up to the mark has its transaction line, and is published as it was committed.
 pub fn published_as_committed()
-    ensures { PublishedAsCommitted }
+    ensures line { PublishedPushHasItsLine }
+    ensures same { PublishedAsCommitted }
 {}
 
 /// A law: the greatest number of a transaction line is the mark.

@@ -6,7 +6,8 @@ use Rattle.fk_tree.specs.declared.request.Request.{Request}
 use Rattle.fk_script.specs.declared.command.Command.{Command}
 use Rattle.fk_script.specs.declared.command.Command.TheVariants as command
 use Rattle.fk_script.specs.declared.deployment.Block.{Block}
-use Rattle.fk_spec.specs.Plan.{Ask, Want, Writes, Reads, asks_of, all_asks, ask_of, want_of, at_path, path_within, item_after, nth, or_empty}
+use Rattle.fk_script.specs.declared.deployment.Deployment.{Deployment}
+use Rattle.fk_spec.specs.Plan.{Ask, Want, Writes, Reads, asked, asks_of, all_asks, ask_of, want_of, at_path, path_within, item_after, nth, or_empty, plan_of}
 use Rattle.fk_spec.specs.Client.{is_write}
 use Rattle.fk_law_client.specs.Views.{DeploymentsWriteByWrites}
 use Rattle.fk_law_client.proofs.Messages.{some_same}
@@ -35,39 +36,45 @@ ask_so (command.Get path watch) r e = absurd (no_write (want_of (command.Get pat
 ask_so (command.Stat path watch) r e = absurd (no_write (want_of (command.Stat path watch)) r (path_none (path_within 512 path) (λ p. Reads (query.Stat p) watch) (λ _. tt)) e)
 ask_so (command.Ls path watch) r e = absurd (no_write (want_of (command.Ls path watch)) r (path_none (path_within 512 path) (λ p. Reads (query.Ls p) watch) (λ _. tt)) e)
 
-abbrev AreWrites : List Ask → Type 0
-AreWrites [] = Unit {0}
-AreWrites (a ∷ xs) = IsWrite a × AreWrites xs
+-- What holds of each command's ask. -------------------------------------------------------------------
 
-abbrev AllWrites : List (List Ask) → Type 0
-AllWrites [] = Unit {0}
-AllWrites (xs ∷ all) = AreWrites xs × AllWrites all
+abbrev All : (Ask → Type 0) → List Ask → Type 0
+All P [] = Unit {0}
+All P (a ∷ xs) = P a × All P xs
 
-asks_write : (cs : List Command) → AreWrites (asks_of cs)
-asks_write [] = tt
-asks_write (c ∷ cs) = (ask_so c, asks_write cs)
+abbrev AllOf : (Ask → Type 0) → List (List Ask) → Type 0
+AllOf P [] = Unit {0}
+AllOf P (xs ∷ all) = All P xs × AllOf P all
 
-all_write : (bs : List Block) → AllWrites (all_asks bs)
-all_write [] = tt
-all_write (b ∷ bs) = (asks_write b.commands, all_write bs)
+all_asked : (P : Ask → Type 0) (f : (c : Command) → P (ask_of c)) (cs : List Command) → All P (asks_of cs)
+all_asked P f [] = tt
+all_asked P f (c ∷ cs) = (f c, all_asked P f cs)
 
-item_write : (xs : List Ask) (n : ℕ) (a : Ask) → AreWrites xs → item_after xs n ≡ Some a → IsWrite a
-item_write [] n a i e = absurd (grind arith)
-item_write (x ∷ xs) zero a i e = subst IsWrite (some_same x a e) i.0
-item_write (x ∷ xs) (suc n) a i e = item_write xs n a i.1 e
+all_blocks : (P : Ask → Type 0) (f : (c : Command) → P (ask_of c)) (bs : List Block) → AllOf P (all_asks bs)
+all_blocks P f [] = tt
+all_blocks P f (b ∷ bs) = (all_asked P f b.commands, all_blocks P f bs)
 
-list_write : (all : List (List Ask)) (n : ℕ) → AllWrites all → AreWrites (or_empty (item_after all n))
-list_write [] n i = tt
-list_write (xs ∷ all) zero i = i.0
-list_write (xs ∷ all) (suc n) i = list_write all n i.1
+item_of : (P : Ask → Type 0) (xs : List Ask) (n : ℕ) (a : Ask) → All P xs → item_after xs n ≡ Some a → P a
+item_of P [] n a i e = absurd (grind arith)
+item_of P (x ∷ xs) zero a i e = subst P (some_same x a e) i.0
+item_of P (x ∷ xs) (suc n) a i e = item_of P xs n a i.1 e
 
-nth_list : (all : List (List Ask)) (n : ℕ) → AllWrites all → AreWrites (or_empty (nth all n))
-nth_list all zero i = tt
-nth_list all (suc n) i = list_write all n i
+list_of : (P : Ask → Type 0) (all : List (List Ask)) (n : ℕ) → AllOf P all → All P (or_empty (item_after all n))
+list_of P [] n i = tt
+list_of P (xs ∷ all) zero i = i.0
+list_of P (xs ∷ all) (suc n) i = list_of P all n i.1
 
-nth_write : (xs : List Ask) (n : ℕ) (a : Ask) → AreWrites xs → nth xs n ≡ Some a → IsWrite a
-nth_write xs zero a i e = absurd (grind arith)
-nth_write xs (suc n) a i e = item_write xs n a i e
+nth_list : (P : Ask → Type 0) (all : List (List Ask)) (n : ℕ) → AllOf P all → All P (or_empty (nth all n))
+nth_list P all zero i = tt
+nth_list P all (suc n) i = list_of P all n i
+
+nth_of : (P : Ask → Type 0) (xs : List Ask) (n : ℕ) (a : Ask) → All P xs → nth xs n ≡ Some a → P a
+nth_of P xs zero a i e = absurd (grind arith)
+nth_of P xs (suc n) a i e = item_of P xs n a i e
+
+-- what holds of the ask of every command holds of each that a deployment's plan has
+pub every_ask : (P : Ask → Type 0) (f : (c : Command) → P (ask_of c)) (d : Deployment) (c i : ℕ) (a : Ask) → asked (plan_of d) c i ≡ Some a → P a
+every_ask P f d c i a e = nth_of P (or_empty (nth (all_asks d.clients) c)) i a (nth_list P (all_asks d.clients) c (all_blocks P f d.clients)) e
 
 pub deployments_write : DeploymentsWriteByWrites
-deployments_write d c i a r e f = nth_write (or_empty (nth (all_asks d.clients) c)) i a (nth_list (all_asks d.clients) c (all_write d.clients)) e r f
+deployments_write d c i a r e f = every_ask IsWrite ask_so d c i a e r f

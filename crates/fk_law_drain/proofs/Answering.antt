@@ -22,7 +22,7 @@ use Rattle.fk_law_client.specs.Operations.{OperationSays}
 use Rattle.fk_law_client.proofs.Kept.{client_after}
 use Rattle.fk_law_client.proofs.Lines.{lines_are}
 use Rattle.fk_law_client.proofs.Operating.{client_operations_say}
-use Rattle.fk_law_reply.proofs.Ledger.{self}
+use Rattle.fk_law.proofs.Numbers.{itself}
 use Rattle.fk_law_drain.specs.Answering.{keeps_command, BegunAreAnsweredOrKept}
 
 or_regroup : (a b c : Bool) → ((a || b) || c) ≡ (a || (b || c))
@@ -48,7 +48,7 @@ answered_appended c i [] ys = refl
 answered_appended c i (x ∷ xs) ys = ap (λ z. answers c i x || z) (answered_appended c i xs ys) ∙ sym (or_regroup (answers c i x) (is_answered_in c i xs) (is_answered_in c i ys))
 
 own_answers : (c j i : ℕ) → (if c == c then j == i else false) ≡ (j == i)
-own_answers c j i = ap (λ z. if z then j == i else false) (self c)
+own_answers c j i = ap (λ z. if z then j == i else false) (itself c)
 
 -- a kept command is printed, where it is ready, or stays kept
 ready_or_kept : (p : Plan) (c i : ℕ) (h : List Entry) (ss : List Sent) → (is_answered_in c i (reply_lines (wording p c h) (ready_first by_result ss)) || keeps_command i (without_ready by_result ss)) ≡ keeps_command i ss

@@ -4,12 +4,13 @@ use Rattle.std.proofs.Common.{◌≡◌, ℕ, ◌+◌, ◌≤◌, ◌++◌, inl,
 use Rattle.std.proofs.lemmas.Bool.{false≢true, cond_both}
 use Rattle.std.proofs.lemmas.Bool.Decides.{nat_tests}
 use Rattle.fk_base.specs.declared.code.Code.TheVariants as code
+use Rattle.fk_tree.specs.declared.request.Request.TheVariants as request
 use Rattle.fk_print.specs.declared.entry.Entry.{Entry}
 use Rattle.fk_print.specs.declared.op.Op.{Op}
 use Rattle.fk_print.specs.declared.op.Op.TheVariants as op
-use Rattle.fk_spec.specs.Plan.{Plan, asked}
+use Rattle.fk_spec.specs.Plan.{Plan, Ask, Want, Unfit, Writes, Reads, asked}
 use Rattle.fk_spec.specs.Shown.{seen_by}
-use Rattle.fk_spec.specs.Start.{Task, Follows, Leads, count_sent, origin_of, request_from, request_of, sends_of, sent_in, task_of, written}
+use Rattle.fk_spec.specs.Start.{Task, Follows, Leads, count_sent, origin_of, request_from, request_in, request_of, sends_of, sent_in, task_of, written}
 use Rattle.fk_spec.specs.Start as start
 use Rattle.fk_spec.specs.Settling.{Outcome, Committed, Passed, outcome_of, settled_of}
 use Rattle.fk_spec.specs.Lanes.{Message, Done, Evicted, Kept, Watch, Ping, inbox_after, inbox_of, is_evict, kept_message, posted_in, reply_message, takes, with_posted, without_first}
@@ -26,7 +27,6 @@ use Rattle.fk_law.proofs.Due.{due}
 use Rattle.fk_law.proofs.Outcomes.{settled_have_an_outcome}
 use Rattle.fk_law.proofs.Settled.{answered_at, reached}
 use Rattle.fk_law.proofs.Starting.{follower_task, leader_task}
-use Rattle.fk_law_watch.specs.FirstNumbers.{ReadsAreReads}
 use Rattle.fk_law_watch.proofs.SetWatches.{or_right}
 use Rattle.fk_law_client.specs.Kept.{KeptFrom, Before, Told, Begun, begun_by}
 use Rattle.fk_law_client.specs.Lines.{IsAmong, kept_after}
@@ -36,8 +36,9 @@ use Rattle.fk_law_client.proofs.Kept.{among_unready, kept_commands_have_their_so
 use Rattle.fk_law_client.proofs.Messages.{none_some, same_number, some_same}
 use Rattle.fk_law_client.proofs.Operating.{client_operations_say}
 use Rattle.fk_law_client.proofs.Tracking.{sent_tracked}
-use Rattle.fk_law_reply.proofs.Ledger.{self}
-use Rattle.fk_law_drain.specs.Delivering.{IsReplied, NoCommandEvicts, awaits_outcome, is_outcome_told, tells_outcome}
+use Rattle.fk_law.proofs.Numbers.{itself}
+use Rattle.fk_law_reply.specs.Plans.{HasFittingVerbs}
+use Rattle.fk_law_drain.specs.Delivering.{IsReplied, awaits_outcome, is_outcome_told, tells_outcome}
 
 -- What is awaited. -------------------------------------------------------------------------------------
 
@@ -193,12 +194,29 @@ sent_with p c k h n last (s ∷ ss) begun top a x e = by_test (λ f. sent_with p
     by_test f true g _ = it (both s.k k (is_open s.result) g).0 x.1
     by_test f false g y = f y
 
+-- what a command asks for doesn't evict
+no_command_evicts : (p : Plan) (c i : ℕ) → HasFittingVerbs p → is_evict (written (asked p c i)) ≡ false
+no_command_evicts p c i v = by_ask (asked p c i) refl
+  where
+    by_want : (a : Ask) (w : Want) → asked p c i ≡ Some a → a.want ≡ w → is_evict (request_in w) ≡ false
+    by_want a (Writes (request.Close evict)) e f = ap (λ z. is_evict (request_in z)) (sym f ∙ (v.closes c i a e).wants ((v.closes c i a e).verb (request.Close evict) f refl))
+    by_want a (Writes (request.Create path bytes seq eph)) e f = refl
+    by_want a (Writes (request.Set path bytes version)) e f = refl
+    by_want a (Writes (request.Delete path version)) e f = refl
+    by_want a (Writes (request.Multi parts)) e f = refl
+    by_want a (Reads q watch) e f = refl
+    by_want a Unfit e f = refl
+
+    by_ask : (o : Option Ask) → asked p c i ≡ o → is_evict (written o) ≡ false
+    by_ask None e = refl
+    by_ask (Some a) e = by_want a a.want e refl
+
 -- a request that is awaited doesn't evict
-no_evict : (p : Plan) (c k : ℕ) (h : List Entry) → ReadsAreReads p → NoCommandEvicts p → IsHistory p h → 1 ≤ k → awaits_outcome k (client_of p c h).sent ≡ true → is_evict (request_of p c k h) ≡ false
-no_evict p c k h v n l a e =
-    let t = sent_tracked p c h v l in
+no_evict : (p : Plan) (c k : ℕ) (h : List Entry) → HasFittingVerbs p → IsHistory p h → 1 ≤ k → awaits_outcome k (client_of p c h).sent ≡ true → is_evict (request_of p c k h) ≡ false
+no_evict p c k h v l a e =
+    let t = sent_tracked p c h v.reads l in
     let w = sent_with p c k h t.answered t.last (client_of p c h).sent (client_of p c h).begun (sends_of c h) a t.tracked e in
-    ap (λ z. is_evict (request_from p c z)) w.1.origin ∙ n c w.0
+    ap (λ z. is_evict (request_from p c z)) w.1.origin ∙ no_command_evicts p c w.0 v
 
 -- Inboxes. ---------------------------------------------------------------------------------------------
 
@@ -245,11 +263,11 @@ told_taken p c k e h m ms t q f i =
 -- One entry. -------------------------------------------------------------------------------------------
 
 -- what is told is awaited no more by client c
-told_by : (p : Plan) (c j : ℕ) (h : List Entry) (w : Outcome) → ReadsAreReads p → IsHistory p h → 1 ≤ j → awaits_outcome j (with_told by_result j (Settled w) (client_of p c h).sent) ≡ false
-told_by p c j h w v l a = let t = sent_tracked p c h v l in told_once p c j h w t.answered t.last (client_of p c h).sent (client_of p c h).begun (sends_of c h) a t.tracked
+told_by : (p : Plan) (c j : ℕ) (h : List Entry) (w : Outcome) → HasFittingVerbs p → IsHistory p h → 1 ≤ j → awaits_outcome j (with_told by_result j (Settled w) (client_of p c h).sent) ≡ false
+told_by p c j h w v l a = let t = sent_tracked p c h v.reads l in told_once p c j h w t.answered t.last (client_of p c h).sent (client_of p c h).begun (sends_of c h) a t.tracked
 
 -- what remains awaited after an operation that tells the outcome of message j isn't that of j
-another_told : (p : Plan) (c j k : ℕ) (h : List Entry) (w : Outcome) → ReadsAreReads p → IsHistory p h → 1 ≤ k → awaits_outcome k (with_told by_result j (Settled w) (client_of p c h).sent) ≡ true → (j == k) ≡ false
+another_told : (p : Plan) (c j k : ℕ) (h : List Entry) (w : Outcome) → HasFittingVerbs p → IsHistory p h → 1 ≤ k → awaits_outcome k (with_told by_result j (Settled w) (client_of p c h).sent) ≡ true → (j == k) ≡ false
 another_told p c j k h w v l a e = by_test (j == k) refl
   where
     by_test : (b : Bool) → (j == k) ≡ b → b ≡ false
@@ -260,7 +278,7 @@ another_told p c j k h w v l a e = by_test (j == k) refl
 abbrev StaysTold : Plan → ℕ → ℕ → Entry → List Entry → Type 0
 StaysTold p c k e h = awaits_outcome k (kept_after p c h e.op) ≡ true → is_outcome_told k (inbox_of p c h) ≡ true → is_outcome_told k (inbox_of p c (e ∷ h)) ≡ true
 
-kept_told : (p : Plan) (c k d j : ℕ) (e : Entry) (h : List Entry) (w : Outcome) (ms : List Message) → ReadsAreReads p → IsHistory p h → 1 ≤ k → takes c e.op ≡ true → inbox_of p c h ≡ Kept j w ∷ ms → awaits_outcome k (settle_with by_result j (settled_as (kept_outcome (sight_of p c h).head)) (client_of p c h)).sent ≡ true → is_outcome_told k (inbox_of p c h) ≡ true → is_outcome_told k (inbox_of p c (e ∷ h)) ≡ true
+kept_told : (p : Plan) (c k d j : ℕ) (e : Entry) (h : List Entry) (w : Outcome) (ms : List Message) → HasFittingVerbs p → IsHistory p h → 1 ≤ k → takes c e.op ≡ true → inbox_of p c h ≡ Kept j w ∷ ms → awaits_outcome k (settle_with by_result j (settled_as (kept_outcome (sight_of p c h).head)) (client_of p c h)).sent ≡ true → is_outcome_told k (inbox_of p c h) ≡ true → is_outcome_told k (inbox_of p c (e ∷ h)) ≡ true
 kept_told p c k d j e h w ms v l a t q i f =
     told_taken p c k e h (Kept j w) ms t q (another_told p c j k h w v l a (subst (λ z. awaits_outcome k (settle_with by_result j (settled_as (kept_outcome (first_message z))) (client_of p c h)).sent ≡ true) q i)) f
 
@@ -270,7 +288,7 @@ takes_now c d e o q f t = ap (takes c) q ∙ (t ∙ equal f)
     equal : d ≡ c → (d == c) ≡ true
     equal f = grind (arith, nat_tests)
 
-taken_told : (p : Plan) (c k : ℕ) (e : Entry) (h : List Entry) (o : Op) → ReadsAreReads p → IsHistory p (e ∷ h) → e.op ≡ o → client_in o ≡ Some c → IsDue p h o → 1 ≤ k → awaits_outcome k (kept_after p c h o) ≡ true → is_outcome_told k (inbox_of p c h) ≡ true → is_outcome_told k (inbox_of p c (e ∷ h)) ≡ true
+taken_told : (p : Plan) (c k : ℕ) (e : Entry) (h : List Entry) (o : Op) → HasFittingVerbs p → IsHistory p (e ∷ h) → e.op ≡ o → client_in o ≡ Some c → IsDue p h o → 1 ≤ k → awaits_outcome k (kept_after p c h o) ≡ true → is_outcome_told k (inbox_of p c h) ≡ true → is_outcome_told k (inbox_of p c (e ∷ h)) ≡ true
 taken_told p c k e h (op.TakeDone d j t) v l q f i a x y =
     let s = some_same d c f in
     told_taken p c k e h (Done j t) i.0 (takes_now c d e (op.TakeDone d j t) q s refl) (subst (λ z. inbox_of p z h ≡ Done j t ∷ i.0) s i.1) (another_told p c j k h (Committed t) v l.0 a x) y
@@ -292,7 +310,7 @@ taken_told p c k e h (op.TakePing d w) v l q f i a x y =
 taken_told p c k e h o v l q f i a x y = told_untaken p c k e h (ap (takes c) q) y
 
 -- A request stays replied to.
-pub replied_stays : (p : Plan) (c k : ℕ) (e : Entry) (h : List Entry) → ReadsAreReads p → IsHistory p (e ∷ h) → IsGiven c k h → IsReplied p c k h → IsReplied p c k (e ∷ h)
+pub replied_stays : (p : Plan) (c k : ℕ) (e : Entry) (h : List Entry) → HasFittingVerbs p → IsHistory p (e ∷ h) → IsGiven c k h → IsReplied p c k h → IsReplied p c k (e ∷ h)
 replied_stays p c k e h v l g i =
     client_either p c e h (λ x. awaits_outcome k x.sent ≡ true → is_outcome_told k (inbox_of p c (e ∷ h)) ≡ true)
     (λ f a. told_untaken p c k e h (own_taken c e.op (takes c e.op) f refl) (i a))
@@ -305,7 +323,7 @@ replied_stays p c k e h v l g i =
 posted_now : (p : Plan) (n c k : ℕ) (e : Entry) (h : List Entry) (m : Message) → e.op ≡ op.Reply n c k → reply_message (is_evict (request_of p c k h)) k (outcome_of c k h) (task_of n h) ≡ Some m → tells_outcome k m ≡ true → is_outcome_told k (inbox_of p c (e ∷ h)) ≡ true
 posted_now p n c k e h m q r t =
     subst (λ o. is_outcome_told k (inbox_after (takes c o) (inbox_of p c h) (posted_in p c h o)) ≡ true) (sym q)
-    (by_own (c == c) (self c))
+    (by_own (c == c) (itself c))
   where
     by_own : (b : Bool) → b ≡ true → is_outcome_told k (with_posted (inbox_of p c h) (if b then reply_message (is_evict (request_of p c k h)) k (outcome_of c k h) (task_of n h) else None)) ≡ true
     by_own true f = subst (λ z. is_outcome_told k (with_posted (inbox_of p c h) z) ≡ true) (sym r) (told_last k (inbox_of p c h) m t)
@@ -325,25 +343,25 @@ follower_replies p n c k e h f l q b s g d = told (settled_have_an_outcome p c k
     high = subst (λ z. k ≤ settled_of z h) g (subst (λ z. z ≤ settled_of f.session h) d (subst (λ z. Answered (settled_of f.session h) f.k (progress z)) s (answered_at p n h f l b)))
 
     told : (o : Outcome) × (outcome_of c k h ≡ Some o) → is_outcome_told k (inbox_of p c (e ∷ h)) ≡ true
-    told w = posted_now p n c k e h (Kept k w.0) q (ap (reply_message (is_evict (request_of p c k h)) k (outcome_of c k h)) task ∙ ap (kept_message k) w.1) (self k)
+    told w = posted_now p n c k e h (Kept k w.0) q (ap (reply_message (is_evict (request_of p c k h)) k (outcome_of c k h)) task ∙ ap (kept_message k) w.1) (itself k)
 
 -- a leader's reply tells that its push is done, where its request doesn't evict
 leader_replies : (p : Plan) (n t c k : ℕ) (e : Entry) (h : List Entry) → e.op ≡ op.Reply n c k → task_of n h ≡ Some (Leads t) → is_evict (request_of p c k h) ≡ false → is_outcome_told k (inbox_of p c (e ∷ h)) ≡ true
-leader_replies p n t c k e h q b f = posted_now p n c k e h (Done k t) q (ap (reply_message (is_evict (request_of p c k h)) k (outcome_of c k h)) b ∙ ap (λ z. Some (if z then Evicted k t else Done k t)) f) (self k)
+leader_replies p n t c k e h q b f = posted_now p n c k e h (Done k t) q (ap (reply_message (is_evict (request_of p c k h)) k (outcome_of c k h)) b ∙ ap (λ z. Some (if z then Evicted k t else Done k t)) f) (itself k)
 
 pushed_low : (p : Plan) (t n c k : ℕ) (h : List Entry) → IsHistory p h → IsPushOf t n c k h → 1 ≤ k
 pushed_low p t n c k h l i = (reached p n c k h l i.task).0
 
 -- A request is replied to, once its reply is sent.
-pub replied_now : (p : Plan) (n c k : ℕ) (e : Entry) (h : List Entry) → ReadsAreReads p → NoCommandEvicts p → IsHistory p (e ∷ h) → e.op ≡ op.Reply n c k → IsReplied p c k (e ∷ h)
-replied_now p n c k e h v w l q = by_place (place_of p n h) refl (subst (IsDue p h) q (due p e h l))
+pub replied_now : (p : Plan) (n c k : ℕ) (e : Entry) (h : List Entry) → HasFittingVerbs p → IsHistory p (e ∷ h) → e.op ≡ op.Reply n c k → IsReplied p c k (e ∷ h)
+replied_now p n c k e h v l q = by_place (place_of p n h) refl (subst (IsDue p h) q (due p e h l))
   where
     unchanged : client_of p c (e ∷ h) ≡ client_of p c h
     unchanged = ap (λ o. client_by (sight_of p c h) (client_in o) o (client_of p c h)) q
 
     by_place : (x : Place) → place_of p n h ≡ x → Replies c k h x → IsReplied p c k (e ∷ h)
     by_place (Following f) b i a = follower_replies p n c k e h f l.0 q b i.0 i.1 i.2
-    by_place (Leading t s) b i a = leader_replies p n t c k e h q (leader_task p n h t s l.0 b) (no_evict p c k h v w l.0 (pushed_low p t i.1 c k h l.0 i.2) (subst (λ z. awaits_outcome k z.sent ≡ true) unchanged a))
+    by_place (Leading t s) b i a = leader_replies p n t c k e h q (leader_task p n h t s l.0 b) (no_evict p c k h v l.0 (pushed_low p t i.1 c k h l.0 i.2) (subst (λ z. awaits_outcome k z.sent ≡ true) unchanged a))
     by_place Absent b i a = absurd i
     by_place (Telling u t s) b i a = absurd i
     by_place (Beating u s) b i a = absurd i

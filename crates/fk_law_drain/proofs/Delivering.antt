@@ -34,8 +34,8 @@ use Rattle.fk_law.proofs.Numbers.{at_most, above}
 use Rattle.fk_law.proofs.Outcomes.{applied_is_committed, outcome_never_changes}
 use Rattle.fk_law.proofs.Settled.{commit_of, reached, settled_between, settled_were_sent, task_at_most_next}
 use Rattle.fk_law.proofs.Starting.{follower_task, leader_task, place_for}
-use Rattle.fk_law_watch.specs.FirstNumbers.{ReadsAreReads}
-use Rattle.fk_law_drain.specs.Delivering.{IsReplied, IsUnderWay, NoCommandEvicts, RemovedMessageIsRepliedOrCommitted, DonePushIsReplied}
+use Rattle.fk_law_reply.specs.Plans.{HasFittingVerbs}
+use Rattle.fk_law_drain.specs.Delivering.{IsReplied, IsUnderWay, RemovedMessageIsRepliedOrCommitted, DonePushIsReplied}
 use Rattle.fk_law_drain.proofs.Awaiting.{IsGiven, replied_now, replied_stays}
 
 -- What is shown of each history. -----------------------------------------------------------------------
@@ -66,7 +66,7 @@ push_given : (p : Plan) (t n c k : ℕ) (h : List Entry) → IsHistory p h → I
 push_given p t n c k h l i = let r = reached p n c k h l i.task in (r.0, r.2)
 
 -- the request of a push that was committed before stays replied to
-push_stays_replied : (p : Plan) (t : ℕ) (e : Entry) (h : List Entry) → ReadsAreReads p → IsHistory p (e ∷ h) → is_committed t h ≡ true → IsPushReplied p t h → IsPushReplied p t (e ∷ h)
+push_stays_replied : (p : Plan) (t : ℕ) (e : Entry) (h : List Entry) → HasFittingVerbs p → IsHistory p (e ∷ h) → is_committed t h ≡ true → IsPushReplied p t h → IsPushReplied p t (e ∷ h)
 push_stays_replied p t e h v l a i n c k j =
     let x = committed_push p t h l.0 a in
     let w = its_push_stays p t x.function x.session x.k e h l x.is_of in
@@ -94,7 +94,7 @@ committed_before : (p : Plan) (t : ℕ) (h : List Entry) (o : Op) → IsHistory 
 committed_before p t h (op.CommitOk n u) l d b a = let c = (commits_are_beyond_the_sweep p n u h l d).0 in grind (arith, nat_tests)
 committed_before p t h o l d b a = a
 
-done_step : (p : Plan) (t : ℕ) (e : Entry) (h : List Entry) → ReadsAreReads p → IsHistory p (e ∷ h) → IsDelivered p h → is_committed t (e ∷ h) ≡ true → t ≤ done_of (e ∷ h) → IsPushReplied p t (e ∷ h)
+done_step : (p : Plan) (t : ℕ) (e : Entry) (h : List Entry) → HasFittingVerbs p → IsHistory p (e ∷ h) → IsDelivered p h → is_committed t (e ∷ h) ≡ true → t ≤ done_of (e ∷ h) → IsPushReplied p t (e ∷ h)
 done_step p t e h v l i a b = push_stays_replied p t e h v l before (by_done (nat_le t (done_of h)) refl)
   where
     before : is_committed t h ≡ true
@@ -135,19 +135,19 @@ comes_to_done p n t h o s d b a e = absurd (grind arith)
 replying_push : (p : Plan) (n t c k : ℕ) (h : List Entry) (s : leader.Stage) → place_of p n h ≡ Leading t s → due_so.Replies c k h (place_of p n h) → (m : ℕ) × IsPushOf t m c k h
 replying_push p n t c k h s b d = let x = subst (due_so.Replies c k h) b d in (x.1, x.2)
 
-leader_moves : (p : Plan) (n t : ℕ) (e : Entry) (h : List Entry) (s : leader.Stage) → ReadsAreReads p → NoCommandEvicts p → IsHistory p (e ∷ h) → place_of p n h ≡ Leading t s → actor e.op ≡ Some n → FinishesSo p (e ∷ h) t (next_leader p h t e.op s)
-leader_moves p n t e h s v w l b a f m c k j =
+leader_moves : (p : Plan) (n t : ℕ) (e : Entry) (h : List Entry) (s : leader.Stage) → HasFittingVerbs p → IsHistory p (e ∷ h) → place_of p n h ≡ Leading t s → actor e.op ≡ Some n → FinishesSo p (e ∷ h) t (next_leader p h t e.op s)
+leader_moves p n t e h s v l b a f m c k j =
     let y = comes_to_done p n t h e.op s (due p e h l) b a f in
     let x = replying_push p n t y.0 y.1 h s b (subst (IsDue p h) y.2 (due p e h l)) in
     let g = its_push_is_one t x.0 y.0 y.1 m c k (e ∷ h) (its_push_stays p t x.0 y.0 y.1 e h l x.1) j in
-    subst (λ z. IsReplied p z k (e ∷ h)) g.1 (subst (λ z. IsReplied p y.0 z (e ∷ h)) g.2 (replied_now p n y.0 y.1 e h v w l y.2))
+    subst (λ z. IsReplied p z k (e ∷ h)) g.1 (subst (λ z. IsReplied p y.0 z (e ∷ h)) g.2 (replied_now p n y.0 y.1 e h v l y.2))
 
-finishes_step : (p : Plan) (n : ℕ) (e : Entry) (h : List Entry) → ReadsAreReads p → NoCommandEvicts p → IsHistory p (e ∷ h) → IsDelivered p h → OnLeader (FinishesSo p (e ∷ h)) (place_of p n (e ∷ h))
-finishes_step p n e h v w l i =
+finishes_step : (p : Plan) (n : ℕ) (e : Entry) (h : List Entry) → HasFittingVerbs p → IsHistory p (e ∷ h) → IsDelivered p h → OnLeader (FinishesSo p (e ∷ h)) (place_of p n (e ∷ h))
+finishes_step p n e h v l i =
     leader_step p n h e.op (place_of p n h) (FinishesSo p (e ∷ h))
     (λ t s b _ f. push_stays_replied p t e h v l (committed t s b f) (subst (OnLeader (FinishesSo p h)) b (i.finishes n) f))
     (λ t _ f. absurd (grind arith))
-    (λ t s b a. leader_moves p n t e h s v w l b a)
+    (λ t s b a. leader_moves p n t e h s v l b a)
   where
     committed : (t : ℕ) (s : leader.Stage) → place_of p n h ≡ Leading t s → s ≡ leader.Done → is_committed t h ≡ true
     committed t s b f = (subst (Stands h t) f (leader_stands_where_it_may p n t s h l.0 b)).0
@@ -162,7 +162,7 @@ under_way_after p c k e h l done t o = by_done (nat_le t (done_of (e ∷ h))) re
     by_done true f = let w = applied_is_committed p c k t (e ∷ h) l o in inl (done t w.0 (at_most t (done_of (e ∷ h)) f) w.1 c k w.2)
     by_done false f = inr (record { tx = t; outcome = o; undone = above t (done_of (e ∷ h)) f })
 
-seen_to_stays : (p : Plan) (c k : ℕ) (e : Entry) (h : List Entry) → ReadsAreReads p → IsHistory p (e ∷ h) → ((t : ℕ) → is_committed t (e ∷ h) ≡ true → t ≤ done_of (e ∷ h) → IsPushReplied p t (e ∷ h)) → IsGiven c k h → IsSeenTo p c k h → IsSeenTo p c k (e ∷ h)
+seen_to_stays : (p : Plan) (c k : ℕ) (e : Entry) (h : List Entry) → HasFittingVerbs p → IsHistory p (e ∷ h) → ((t : ℕ) → is_committed t (e ∷ h) ≡ true → t ≤ done_of (e ∷ h) → IsPushReplied p t (e ∷ h)) → IsGiven c k h → IsSeenTo p c k h → IsSeenTo p c k (e ∷ h)
 seen_to_stays p c k e h v l done g (inl x) = inl (replied_stays p c k e h v l g x)
 seen_to_stays p c k e h v l done g (inr x) = under_way_after p c k e h l done x.tx (outcome_never_changes p c k h (e ∷ []) (Committed x.tx) l x.outcome)
 
@@ -214,31 +214,31 @@ replying_request p n m c k h f g b d = let x = subst (due_so.Replies c k h) (ap 
 its_follower : (p : Plan) (n m : ℕ) (h : List Entry) (f g : Follower) → m ≡ n → place_of p n h ≡ Following f → place_of p m h ≡ Following g → g ≡ f
 its_follower p n m h f g e b d = grind arith
 
-follower_moves : (p : Plan) (n : ℕ) (e : Entry) (h : List Entry) (o : Op) (f : Follower) → ReadsAreReads p → NoCommandEvicts p → IsHistory p (e ∷ h) → IsDelivered p h → ((t : ℕ) → is_committed t (e ∷ h) ≡ true → t ≤ done_of (e ∷ h) → IsPushReplied p t (e ∷ h)) → e.op ≡ o → IsDue p h o → place_of p n h ≡ Following f → actor o ≡ Some n → IsGiven f.session f.k h → EndsSo p (e ∷ h) f.session f.k (progress_after o (progress f.stage))
-follower_moves p n e h (op.SessionApplied m) f v w l i done q d b a g r =
+follower_moves : (p : Plan) (n : ℕ) (e : Entry) (h : List Entry) (o : Op) (f : Follower) → HasFittingVerbs p → IsHistory p (e ∷ h) → IsDelivered p h → ((t : ℕ) → is_committed t (e ∷ h) ≡ true → t ≤ done_of (e ∷ h) → IsPushReplied p t (e ∷ h)) → e.op ≡ o → IsDue p h o → place_of p n h ≡ Following f → actor o ≡ Some n → IsGiven f.session f.k h → EndsSo p (e ∷ h) f.session f.k (progress_after o (progress f.stage))
+follower_moves p n e h (op.SessionApplied m) f v l i done q d b a g r =
     let x : m ≡ n = grind arith in
     let y = its_follower p n m h f d.0 x b d.1 in
     seen_to_stays p f.session f.k e h v l done g (applied_seen_to p f.session f.k h l.0 i (outcome_of f.session f.k h) refl (subst (λ z. IsApplied (outcome_of z.session z.k h)) y d.4))
-follower_moves p n e h (op.SessionPast m) f v w l i done q d b a g r =
+follower_moves p n e h (op.SessionPast m) f v l i done q d b a g r =
     let x : m ≡ n = grind arith in
     let y = its_follower p n m h f d.0 x b d.1 in
     seen_to_stays p f.session f.k e h v l done g (i.removed f.session f.k g.0 (past_removed p n f.session f.k h l.0 (follower_task p n h f l.0 b) (subst (λ z. settled_of z.session h + 1 ≡ z.k → ⊥) y d.3) (subst (λ z. settled_of z.session h ≡ z.k → ⊥) y d.4)))
-follower_moves p n e h (op.CommitOk m t) f v w l i done q d b a g r =
+follower_moves p n e h (op.CommitOk m t) f v l i done q d b a g r =
     let x : m ≡ n = grind arith in
     under_way_after p f.session f.k e h l done t (committed_now p n m t e h f l q x b)
-follower_moves p n e h (op.Reply m c k) f v w l i done q d b a g r =
+follower_moves p n e h (op.Reply m c k) f v l i done q d b a g r =
     let x : m ≡ n = grind arith in
     let y = replying_request p n m c k h f x b d in
-    inl (subst (λ z. IsReplied p z f.k (e ∷ h)) y.0 (subst (λ z. IsReplied p c z (e ∷ h)) y.1 (replied_now p m c k e h v w l q)))
-follower_moves p n e h (op.LockBusy m path holder moment) f v w l i done q d b a g r = seen_to_stays p f.session f.k e h v l done g (subst (OnFollower (EndsSo p h)) b (i.ends n) r)
-follower_moves p n e h o f v w l i done q d b a g r = absurd (grind arith)
+    inl (subst (λ z. IsReplied p z f.k (e ∷ h)) y.0 (subst (λ z. IsReplied p c z (e ∷ h)) y.1 (replied_now p m c k e h v l q)))
+follower_moves p n e h (op.LockBusy m path holder moment) f v l i done q d b a g r = seen_to_stays p f.session f.k e h v l done g (subst (OnFollower (EndsSo p h)) b (i.ends n) r)
+follower_moves p n e h o f v l i done q d b a g r = absurd (grind arith)
 
-ends_step : (p : Plan) (n : ℕ) (e : Entry) (h : List Entry) → ReadsAreReads p → NoCommandEvicts p → IsHistory p (e ∷ h) → IsDelivered p h → ((t : ℕ) → is_committed t (e ∷ h) ≡ true → t ≤ done_of (e ∷ h) → IsPushReplied p t (e ∷ h)) → OnFollower (EndsSo p (e ∷ h)) (place_of p n (e ∷ h))
-ends_step p n e h v w l i done =
+ends_step : (p : Plan) (n : ℕ) (e : Entry) (h : List Entry) → HasFittingVerbs p → IsHistory p (e ∷ h) → IsDelivered p h → ((t : ℕ) → is_committed t (e ∷ h) ≡ true → t ≤ done_of (e ∷ h) → IsPushReplied p t (e ∷ h)) → OnFollower (EndsSo p (e ∷ h)) (place_of p n (e ∷ h))
+ends_step p n e h v l i done =
     follower_step p n h e.op (place_of p n h) (EndsSo p (e ∷ h))
     (λ f b _ r. seen_to_stays p f.session f.k e h v l done (given f b) (subst (OnFollower (EndsSo p h)) b (i.ends n) r))
     (λ c k _ r. absurd (grind arith))
-    (λ f b a. follower_moves p n e h e.op f v w l i done refl (due p e h l) b a (given f b))
+    (λ f b a. follower_moves p n e h e.op f v l i done refl (due p e h l) b a (given f b))
   where
     given : (f : Follower) → place_of p n h ≡ Following f → IsGiven f.session f.k h
     given f b = let r = reached p n f.session f.k h l.0 (follower_task p n h f l.0 b) in (r.0, r.2)
@@ -276,7 +276,7 @@ newly_removed : (p : Plan) (c k : ℕ) (h : List Entry) (o : Op) → IsHistory p
 newly_removed p c k h (op.AckOk n) l d a b = let w = removed_low (follows_session c) n h (removed_by (follows_session c) h) k a b in removes_by p n c k h (place_of p n h) refl (place_for p n h l) d w.0 w.1
 newly_removed p c k h o l d a b = absurd (omega (arith, a, b))
 
-removed_step : (p : Plan) (c k : ℕ) (e : Entry) (h : List Entry) → ReadsAreReads p → IsHistory p (e ∷ h) → IsDelivered p h → ((t : ℕ) → is_committed t (e ∷ h) ≡ true → t ≤ done_of (e ∷ h) → IsPushReplied p t (e ∷ h)) → 1 ≤ k → k ≤ removed_by (follows_session c) (e ∷ h) → IsSeenTo p c k (e ∷ h)
+removed_step : (p : Plan) (c k : ℕ) (e : Entry) (h : List Entry) → HasFittingVerbs p → IsHistory p (e ∷ h) → IsDelivered p h → ((t : ℕ) → is_committed t (e ∷ h) ≡ true → t ≤ done_of (e ∷ h) → IsPushReplied p t (e ∷ h)) → 1 ≤ k → k ≤ removed_by (follows_session c) (e ∷ h) → IsSeenTo p c k (e ∷ h)
 removed_step p c k e h v l i done a b = by_old (nat_le k (removed_by (follows_session c) h)) refl
   where
     sent : k ≤ removed_by (follows_session c) h → k ≤ sends_of c h
@@ -294,23 +294,23 @@ removed_step p c k e h v l i done a b = by_old (nat_le k (removed_by (follows_se
 
 -- Histories. -------------------------------------------------------------------------------------------
 
-delivered_step : (p : Plan) (e : Entry) (h : List Entry) → ReadsAreReads p → NoCommandEvicts p → IsHistory p (e ∷ h) → IsDelivered p h → IsDelivered p (e ∷ h)
-delivered_step p e h v w l i = record {
+delivered_step : (p : Plan) (e : Entry) (h : List Entry) → HasFittingVerbs p → IsHistory p (e ∷ h) → IsDelivered p h → IsDelivered p (e ∷ h)
+delivered_step p e h v l i = record {
   removed = λ c k a b. removed_step p c k e h v l i done a b;
-  ends = λ n. ends_step p n e h v w l i done;
+  ends = λ n. ends_step p n e h v l i done;
   done = done;
-  finishes = λ n. finishes_step p n e h v w l i;
+  finishes = λ n. finishes_step p n e h v l i;
 }
   where
     done : (t : ℕ) → is_committed t (e ∷ h) ≡ true → t ≤ done_of (e ∷ h) → IsPushReplied p t (e ∷ h)
     done t a b = done_step p t e h v l i a b
 
-delivered : (p : Plan) (h : List Entry) → ReadsAreReads p → NoCommandEvicts p → IsHistory p h → IsDelivered p h
-delivered p [] v w l = record { removed = λ c k a b. absurd (omega (arith, a, b)); ends = λ n. tt; done = λ t a b. absurd (false≢true a); finishes = λ n. tt }
-delivered p (e ∷ h) v w l = delivered_step p e h v w l (delivered p h v w l.0)
+delivered : (p : Plan) (h : List Entry) → HasFittingVerbs p → IsHistory p h → IsDelivered p h
+delivered p [] v l = record { removed = λ c k a b. absurd (omega (arith, a, b)); ends = λ n. tt; done = λ t a b. absurd (false≢true a); finishes = λ n. tt }
+delivered p (e ∷ h) v l = delivered_step p e h v l (delivered p h v l.0)
 
 pub removed_message_is_replied_or_committed : RemovedMessageIsRepliedOrCommitted
-removed_message_is_replied_or_committed p c k h v w l a b = (delivered p h v w l).removed c k a b
+removed_message_is_replied_or_committed p c k h v l a b = (delivered p h v l).removed c k a b
 
 pub done_push_is_replied : DonePushIsReplied
-done_push_is_replied p t n c k h v w l a b i = (delivered p h v w l).done t a b n c k i
+done_push_is_replied p t n c k h v l a b i = (delivered p h v l).done t a b n c k i

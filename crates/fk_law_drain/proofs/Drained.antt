@@ -25,21 +25,20 @@ use Rattle.fk_spec.specs.Next.{IsHistory}
 use Rattle.fk_law.proofs.Leading.{done_is_removed_or_one_more}
 use Rattle.fk_law.proofs.Outcomes.{applied_is_committed}
 use Rattle.fk_law.proofs.Pushing.{push_bound}
-use Rattle.fk_law_watch.specs.FirstNumbers.{ReadsAreReads}
-use Rattle.fk_law_watch.proofs.FirstNumbers.{deployments_read_by_reads}
 use Rattle.fk_law_client.specs.Lines.{IsAmong, kept_after}
 use Rattle.fk_law_client.proofs.Kept.{client_after}
 use Rattle.fk_law_client.proofs.Messages.{none_some, some_same}
+use Rattle.fk_law_reply.specs.Plans.{HasFittingVerbs}
 use Rattle.fk_law_reply.specs.Reads.{IsMadeRead}
 use Rattle.fk_law_reply.proofs.Finding.{reads_show_the_tree}
-use Rattle.fk_law_reply.proofs.Ledger.{self}
+use Rattle.fk_law_reply.proofs.Plans.{deployments_have_fitting_verbs}
+use Rattle.fk_law.proofs.Numbers.{itself}
 use Rattle.fk_law_drain.specs.Answering.{keeps_command}
-use Rattle.fk_law_drain.specs.Delivering.{awaits_outcome, is_outcome_told, IsReplied, IsUnderWay, NoCommandEvicts}
+use Rattle.fk_law_drain.specs.Delivering.{awaits_outcome, is_outcome_told, IsReplied, IsUnderWay}
 use Rattle.fk_law_drain.specs.Drained.{DrainedIsAnswered, DrainedDeploymentIsAnswered, ScheduledIsAnswered}
 use Rattle.fk_law_drain.proofs.Answering.{begun_are_answered_or_kept}
 use Rattle.fk_law_drain.proofs.Awaiting.{open_are_given}
 use Rattle.fk_law_drain.proofs.Delivering.{removed_message_is_replied_or_committed}
-use Rattle.fk_law_drain.proofs.Evicting.{deployments_ask_no_eviction}
 
 -- What an idle client has. -----------------------------------------------------------------------------
 
@@ -141,14 +140,14 @@ empty_head : (given removed : ℕ) → head_among given removed ≡ None → giv
 empty_head given removed e = grind (arith, nat_tests)
 
 -- where its lane, its inbox and the leader lane are empty, no command that a client sent is open
-open_is_answered : (p : Plan) (c : ℕ) (h : List Entry) (s : Sent) (ss : List Sent) → ReadsAreReads p → NoCommandEvicts p → IsHistory p h → session_head c h ≡ None → leader_head h ≡ None → inbox_of p c h ≡ [] → (client_of p c h).sent ≡ s ∷ ss → is_open s.result ≡ true → ⊥
-open_is_answered p c h s ss v w l a b i e f = by_reply (removed_message_is_replied_or_committed p c s.k h v w l g.0 (let x = g.1 in let y = empty_head (sends_of c h) (removed_by (follows_session c) h) a in omega (arith, x, y)))
+open_is_answered : (p : Plan) (c : ℕ) (h : List Entry) (s : Sent) (ss : List Sent) → HasFittingVerbs p → IsHistory p h → session_head c h ≡ None → leader_head h ≡ None → inbox_of p c h ≡ [] → (client_of p c h).sent ≡ s ∷ ss → is_open s.result ≡ true → ⊥
+open_is_answered p c h s ss v l a b i e f = by_reply (removed_message_is_replied_or_committed p c s.k h v l g.0 (let x = g.1 in let y = empty_head (sends_of c h) (removed_by (follows_session c) h) a in omega (arith, x, y)))
   where
     g : (1 ≤ s.k) × (s.k ≤ sends_of c h)
     g = open_are_given p c h l s (subst (λ z. IsAmong s z) (sym e) (inl refl)) f
 
     waits : awaits_outcome s.k (client_of p c h).sent ≡ true
-    waits = ap (awaits_outcome s.k) e ∙ first (self s.k) f (awaits_outcome s.k ss)
+    waits = ap (awaits_outcome s.k) e ∙ first (itself s.k) f (awaits_outcome s.k ss)
       where
         first : (s.k == s.k) ≡ true → is_open s.result ≡ true → (d : Bool) → (((s.k == s.k) && is_open s.result) || d) ≡ true
         first x y d = rw (x, y) refl
@@ -164,9 +163,9 @@ open_is_answered p c h s ss v w l a b i e f = by_reply (removed_message_is_repli
         let t = u.undone in
         omega (arith, n, m, k, t)
 
-keeps_none : (p : Plan) (c : ℕ) (h : List Entry) (ss : List Sent) → ReadsAreReads p → NoCommandEvicts p → IsHistory p h → session_head c h ≡ None → leader_head h ≡ None → inbox_of p c h ≡ [] → (client_of p c h).sent ≡ ss → target_sent by_result ss ≡ None → ss ≡ []
-keeps_none p c h [] v w l a b i e f = refl
-keeps_none p c h (s ∷ ss) v w l a b i e f = absurd (open_is_answered p c h s ss v w l a b i e (is_unknown s.result (subst IsFirstUnready e (first_is_unready p c h)) (not_sought s.command (number_looked_for s.result) f)))
+keeps_none : (p : Plan) (c : ℕ) (h : List Entry) (ss : List Sent) → HasFittingVerbs p → IsHistory p h → session_head c h ≡ None → leader_head h ≡ None → inbox_of p c h ≡ [] → (client_of p c h).sent ≡ ss → target_sent by_result ss ≡ None → ss ≡ []
+keeps_none p c h [] v l a b i e f = refl
+keeps_none p c h (s ∷ ss) v l a b i e f = absurd (open_is_answered p c h s ss v l a b i e (is_unknown s.result (subst IsFirstUnready e (first_is_unready p c h)) (not_sought s.command (number_looked_for s.result) f)))
 
 -- Clients. ---------------------------------------------------------------------------------------------
 
@@ -176,8 +175,8 @@ record IsFinished (p : Plan) (c : ℕ) (h : List Entry) : Type 0 where
   pub kept : (client_of p c h).sent ≡ []
   pub all_begun : asked p c ((client_of p c h).begun + 1) ≡ None
 
-idle_is_finished : (p : Plan) (c : ℕ) (h : List Entry) → ReadsAreReads p → NoCommandEvicts p → IsHistory p h → session_head c h ≡ None → leader_head h ≡ None → is_idle (client_op p c h) ≡ true → IsFinished p c h
-idle_is_finished p c h v w l a b e = record { pings = pinged.0; inbox = inbox; kept = kept; all_begun = begin_idle s x (next_asked s.asks x) kept read.1 }
+idle_is_finished : (p : Plan) (c : ℕ) (h : List Entry) → HasFittingVerbs p → IsHistory p h → session_head c h ≡ None → leader_head h ≡ None → is_idle (client_op p c h) ≡ true → IsFinished p c h
+idle_is_finished p c h v l a b e = record { pings = pinged.0; inbox = inbox; kept = kept; all_begun = begin_idle s x (next_asked s.asks x) kept read.1 }
   where
     s : Sight
     s = sight_of p c h
@@ -195,13 +194,13 @@ idle_is_finished p c h v w l a b e = record { pings = pinged.0; inbox = inbox; k
     looked = look_idle s x.held (target_of by_result s.seen x x.reading) _ taken.1
 
     read : (x.reading ≡ None) × (is_idle (begin_asked by_result s x (next_asked s.asks x)) ≡ true)
-    read = watch_idle p c h _ x.reading (λ r f. reads_show_the_tree p c h r v l f) looked.1
+    read = watch_idle p c h _ x.reading (λ r f. reads_show_the_tree p c h r v.reads l f) looked.1
 
     inbox : inbox_of p c h ≡ []
     inbox = no_message (inbox_of p c h) taken.0
 
     kept : x.sent ≡ []
-    kept = keeps_none p c h x.sent v w l a b inbox refl (subst (λ z. target_of by_result s.seen x z ≡ None) read.0 looked.0)
+    kept = keeps_none p c h x.sent v l a b inbox refl (subst (λ z. target_of by_result s.seen x z ≡ None) read.0 looked.0)
 
 begun_all : (xs : List Ask) (n : ℕ) → item_after xs n ≡ None → length xs ≤ n
 begun_all [] n e = omega arith
@@ -258,10 +257,10 @@ no_turn c true q e = (refl, e)
 no_turn c false q e = absurd (none_some (event.Client c) (sym e))
 
 -- these are the plan's clients beyond the first n
-clients_answered : (p : Plan) (h : List Entry) (xs : List (List Ask)) (n : ℕ) → ReadsAreReads p → NoCommandEvicts p → IsHistory p h → leader_head h ≡ None → ((m : ℕ) → item_after xs m ≡ item_after p.asks (n + m)) → deliver_first xs (suc n) h ≡ None → client_first p xs (suc n) h ≡ None → ClientsAnswered p xs (suc n) h
-clients_answered p h [] n v w l b k d t = tt
-clients_answered p h (x ∷ xs) n v w l b k d t =
-    (finished_answered p (suc n) h x l lane its_asks (idle_is_finished p (suc n) h v w l lane b turn.0), clients_answered p h xs (suc n) v w l b rest requests.1 turn.1)
+clients_answered : (p : Plan) (h : List Entry) (xs : List (List Ask)) (n : ℕ) → HasFittingVerbs p → IsHistory p h → leader_head h ≡ None → ((m : ℕ) → item_after xs m ≡ item_after p.asks (n + m)) → deliver_first xs (suc n) h ≡ None → client_first p xs (suc n) h ≡ None → ClientsAnswered p xs (suc n) h
+clients_answered p h [] n v l b k d t = tt
+clients_answered p h (x ∷ xs) n v l b k d t =
+    (finished_answered p (suc n) h x l lane its_asks (idle_is_finished p (suc n) h v l lane b turn.0), clients_answered p h xs (suc n) v l b rest requests.1 turn.1)
   where
     requests : (deliver_where (suc n) (session_head (suc n) h) ≡ None) × (deliver_first xs (suc (suc n)) h ≡ None)
     requests = neither (deliver_where (suc n) (session_head (suc n) h)) (deliver_first xs (suc (suc n)) h) d
@@ -285,7 +284,7 @@ clients_answered p h (x ∷ xs) n v w l b k d t =
         further = omega arith
 
 pub drained_is_answered : DrainedIsAnswered
-drained_is_answered p h v w l e = record { clients = clients_answered p h p.asks 0 v w l leader (λ m. ap (item_after p.asks) (none_before m)) sessions.0 sessions.1; leader = leader; watch = no_note (watch_head h) notes.0; functions = no_step (in_flight p h) steps.0 }
+drained_is_answered p h v l e = record { clients = clients_answered p h p.asks 0 v l leader (λ m. ap (item_after p.asks) (none_before m)) sessions.0 sessions.1; leader = leader; watch = no_note (watch_head h) notes.0; functions = no_step (in_flight p h) steps.0 }
   where
     none_before : (m : ℕ) → m ≡ 0 + m
     none_before m = omega arith
@@ -306,7 +305,7 @@ drained_is_answered p h v w l e = record { clients = clients_answered p h p.asks
     sessions = neither (deliver_first p.asks 1 h) (client_first p p.asks 1 h) pushes.1
 
 pub drained_deployment_is_answered : DrainedDeploymentIsAnswered
-drained_deployment_is_answered d h l e = drained_is_answered (plan_of d) h (deployments_read_by_reads d) (deployments_ask_no_eviction d) l e
+drained_deployment_is_answered d h l e = drained_is_answered (plan_of d) h (deployments_have_fitting_verbs d) l e
 
 -- Schedules. -------------------------------------------------------------------------------------------
 

@@ -2,4 +2,3 @@ pub mod Answering
 pub mod Awaiting
 pub mod Delivering
 pub mod Drained
-pub mod Evicting

@@ -1,15 +1,13 @@
 -- What became of a request is told, once its message is removed and its push is done.
 use Rattle.std.specs.Prelude.{◌≡◌, ℕ, ◌==◌, ◌<◌, ◌≤◌, ◌&&◌, ◌||◌, ◌⊎◌, Bool, true, false, List, [], ◌∷◌, Some}
 use Rattle.fk_print.specs.declared.entry.Entry.{Entry}
-use Rattle.fk_script.specs.declared.deployment.Deployment.{Deployment}
-use Rattle.fk_spec.specs.Plan.{Plan, asked, plan_of}
-use Rattle.fk_spec.specs.Start.{written}
+use Rattle.fk_spec.specs.Plan.{Plan}
 use Rattle.fk_spec.specs.Settling.{Committed, done_of, is_committed, outcome_of}
-use Rattle.fk_spec.specs.Lanes.{follows_session, inbox_of, is_evict, removed_by, Done, Kept, Message}
+use Rattle.fk_spec.specs.Lanes.{follows_session, inbox_of, removed_by, Done, Kept, Message}
 use Rattle.fk_spec.specs.Client.{client_of, is_open, Sent}
 use Rattle.fk_spec.specs.Next.{IsHistory}
 use Rattle.fk_law.specs.Due.{IsPushOf}
-use Rattle.fk_law_watch.specs.FirstNumbers.{ReadsAreReads}
+use Rattle.fk_law_reply.specs.Plans.{HasFittingVerbs}
 
 -- whether nothing is known yet of a command among these that was sent with message k
 abbrev pub awaits_outcome : ℕ → List Sent → Bool
@@ -37,18 +35,10 @@ pub record IsUnderWay (c k : ℕ) (h : List Entry) : Type 0 where
   pub outcome : outcome_of c k h ≡ Some (Committed tx)
   pub undone : done_of h < tx
 
--- no command of the plan asks for an eviction
-abbrev pub NoCommandEvicts : Plan → Type 0
-NoCommandEvicts p = (c i : ℕ) → is_evict (written (asked p c i)) ≡ false
-
--- So it is in what a deployment comes to.
-abbrev pub DeploymentsAskNoEviction : Type 0
-DeploymentsAskNoEviction = (d : Deployment) → NoCommandEvicts (plan_of d)
-
 -- A request whose message was removed is replied to, or its push isn't done yet.
 abbrev pub RemovedMessageIsRepliedOrCommitted : Type 0
-RemovedMessageIsRepliedOrCommitted = (p : Plan) (c k : ℕ) (h : List Entry) → ReadsAreReads p → NoCommandEvicts p → IsHistory p h → 1 ≤ k → k ≤ removed_by (follows_session c) h → IsReplied p c k h ⊎ IsUnderWay c k h
+RemovedMessageIsRepliedOrCommitted = (p : Plan) (c k : ℕ) (h : List Entry) → HasFittingVerbs p → IsHistory p h → 1 ≤ k → k ≤ removed_by (follows_session c) h → IsReplied p c k h ⊎ IsUnderWay c k h
 
 -- The request of a committed push that is done is replied to.
 abbrev pub DonePushIsReplied : Type 0
-DonePushIsReplied = (p : Plan) (t n c k : ℕ) (h : List Entry) → ReadsAreReads p → NoCommandEvicts p → IsHistory p h → is_committed t h ≡ true → t ≤ done_of h → IsPushOf t n c k h → IsReplied p c k h
+DonePushIsReplied = (p : Plan) (t n c k : ℕ) (h : List Entry) → HasFittingVerbs p → IsHistory p h → is_committed t h ≡ true → t ≤ done_of h → IsPushOf t n c k h → IsReplied p c k h

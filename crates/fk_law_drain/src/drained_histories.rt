@@ -1,10 +1,4 @@
-ghost use Rattle.fk_law_drain.specs.Delivering.{DeploymentsAskNoEviction};
 ghost use Rattle.fk_law_drain.specs.Drained.{DrainedDeploymentIsAnswered, DrainedIsAnswered, ScheduledIsAnswered};
-
-/// A law: no command of a deployment asks for an eviction.
-pub fn deployments_ask_no_eviction()
-    ensures { DeploymentsAskNoEviction }
-{}
 
 /// A law: where a drain does nothing next, each command has its line, every lane is empty, no ping is owed
 /// and no function is in flight. So it is after the whole schedule of a deployment.

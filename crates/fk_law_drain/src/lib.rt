@@ -8,4 +8,4 @@ mod drained_histories;
 
 pub use begun_commands::begun_are_answered_or_kept;
 pub use delivered_outcomes::{done_push_is_replied, removed_message_is_replied_or_committed};
-pub use drained_histories::{deployments_ask_no_eviction, drained_is_answered};
+pub use drained_histories::drained_is_answered;

@@ -1,6 +1,6 @@
 -- The numbers under which commands are sent, and what a client keeps of each.
 use Rattle.std.specs.Prelude.{◌==◌, ◌&&◌, ◌||◌, if◌then◌else◌}
-use Rattle.std.proofs.Common.{◌≡◌, ℕ, ◌+◌, ◌≤◌, ◌++◌, inl, inr, Bool, true, false, List, [], ◌∷◌, refl, sym, ◌∙◌, ap, subst, arith, Option, Some, None}
+use Rattle.std.proofs.Common.{◌⊎◌, inl, inr, ◌≡◌, ℕ, ◌+◌, ◌≤◌, ◌++◌, Bool, true, false, List, [], ◌∷◌, refl, sym, ◌∙◌, ap, subst, arith, Option, Some, None}
 use Rattle.std.proofs.lemmas.Bool.{false≢true, cond_both}
 use Rattle.std.proofs.lemmas.Bool.Decides.{nat_tests}
 use Rattle.fk_base.specs.declared.code.Code.TheVariants as code
@@ -9,20 +9,25 @@ use Rattle.fk_print.specs.declared.op.Op.{Op}
 use Rattle.fk_print.specs.declared.op.Op.TheVariants as op
 use Rattle.fk_spec.specs.Plan.{Plan, Ask, Want, Unfit, Writes, Reads, asked, asks_in}
 use Rattle.fk_spec.specs.Shown.{seen_by}
-use Rattle.fk_spec.specs.Start.{or_else, sends_of}
+use Rattle.fk_spec.specs.Start.{or_else, origin_of, request_from, request_in, seen_from, sends_of, written}
+use Rattle.fk_spec.specs.Start as start
 use Rattle.fk_spec.specs.Settling.{Outcome}
 use Rattle.fk_spec.specs.Sight.{sight_of}
 use Rattle.fk_spec.specs.Client.{acted_by, by_result, client_by, client_in, client_of, close_if, flushed, is_close, is_unfit, is_unfit_want, kept_outcome, local_result, looked, looked_at, looked_for, registers, settle_with, settled_as, Client, Result, Open, Settled, Plain, Expired, Reading, Sent}
 use Rattle.fk_spec.specs.Promises.{sent_as, sent_as_in}
 use Rattle.fk_spec.specs.Refusals.{fails_send, has_failed_send, seen_at, seen_at_in}
 use Rattle.fk_spec.specs.Next.{IsHistory}
-use Rattle.fk_law_client.specs.Operations.{OperationSays}
+use Rattle.fk_law.proofs.Sending.{origin_stays, request_never_changes, request_was_sent}
+use Rattle.fk_law_client.specs.Operations.{BeginsWrite, OperationSays}
 use Rattle.fk_law_client.specs.Lines.{IsAmong, kept_after}
+use Rattle.fk_law_client.specs.Tracking.{AreTracked, IsTrueResult, later}
 use Rattle.fk_law_client.specs.Kept.{KeptFrom, Before, Told, Begun, begun_by}
 use Rattle.fk_law_client.proofs.Kept.{client_after, among_unready, kept_commands_have_their_source}
 use Rattle.fk_law_client.proofs.Messages.{same_number, some_same}
 use Rattle.fk_law_client.proofs.Operating.{client_operations_say}
-use Rattle.fk_law_reply.specs.Ledger.{BegunNeverFalls, OnlyBegunWereSent, SentNumberNeverChanges, HasOwnCause, IsEntered, KeptCommandsAreEntered, CommandsOfAnOperationAreEntered, message_number}
+use Rattle.fk_law_reply.specs.Ledger.{BegunNeverFalls, OnlyBegunWereSent, SentNumberNeverChanges, HasOwnCause, IsEntered, IsMessage, KeptCommandsAreEntered, CommandsOfAnOperationAreEntered, message_number}
+use Rattle.fk_law_tree.proofs.Members.{or_right}
+use Rattle.fk_law.proofs.Numbers.{itself}
 
 -- How many commands are begun. -------------------------------------------------------------------------
 
@@ -98,10 +103,6 @@ sent_number_never_changes p c i h (e ∷ more) l b = sent_stays p c i e (more ++
 
 -- What the client itself answers. ----------------------------------------------------------------------
 
-or_later : (a b : Bool) → b ≡ true → (a || b) ≡ true
-or_later true b e = refl
-or_later false b e = e
-
 both : (a b : Bool) → (a && b) ≡ true → (a ≡ true) × (b ≡ true)
 both true b e = (refl, e)
 both false b e = absurd (false≢true e)
@@ -120,7 +121,7 @@ seen_stays p c i e h l b = ap (λ z. or_else z (seen_at c i h)) (seen_other c i 
 
 pub cause_stays : (p : Plan) (c i : ℕ) (e : Entry) (h : List Entry) (a : Ask) (r : Result) → IsHistory p (e ∷ h) → i ≤ (client_of p c h).begun → HasOwnCause c i h a r → HasOwnCause c i (e ∷ h) a r
 cause_stays p c i e h a (Plain code.BadArguments) l b x = x
-cause_stays p c i e h a (Plain code.ConnectionLoss) l b x = or_later (fails_send c i e.op) (has_failed_send c i h) x
+cause_stays p c i e h a (Plain code.ConnectionLoss) l b x = or_right (fails_send c i e.op) (has_failed_send c i h) x
 cause_stays p c i e h a (Plain cd) l b x = absurd x
 cause_stays p c i e h a (Expired at) l b x = seen_stays p c i e h l b ∙ x
 cause_stays p c i e h a Open l b x = tt
@@ -128,26 +129,37 @@ cause_stays p c i e h a (Settled o) l b x = tt
 
 -- What is kept. ----------------------------------------------------------------------------------------
 
+-- a message stays what it is
+pub message_stays : (p : Plan) (c : ℕ) (e : Entry) (h : List Entry) (i k : ℕ) (a : Ask) → IsHistory p (e ∷ h) → i ≤ (client_of p c h).begun → IsMessage p c h i k a → IsMessage p c (e ∷ h) i k a
+message_stays p c e h i k a l b x = record {
+  request = x.request;
+  writes = x.writes;
+  asks = request_never_changes p c k h (e ∷ []) x.request l x.asks;
+  seen = x.seen;
+  seen_with_it = ap seen_from (origin_stays c k e h (request_was_sent p c k h x.request l.0 x.asks).1) ∙ x.seen_with_it;
+  seen_then = seen_stays p c i e h l b ∙ x.seen_then;
+}
+
 entered_stays : (p : Plan) (c begun : ℕ) (e : Entry) (h : List Entry) (s : Sent) → IsHistory p (e ∷ h) → (client_of p c h).begun ≤ begun → IsEntered p c (client_of p c h).begun h s → IsEntered p c begun (e ∷ h) s
 entered_stays p c begun e h s l b x = record {
   is_begun = (let a = x.is_begun in omega (arith, a, b));
   ask = x.ask;
   is_asked = x.is_asked;
   number = sent_stays p c s.command e h l x.is_begun ∙ x.number;
-  writes = x.writes;
+  message = by_message x.message;
   cause = cause_stays p c s.command e h x.ask s.result l x.is_begun x.cause;
 }
+  where
+    by_message : (s.k ≡ 0) ⊎ IsMessage p c h s.command s.k x.ask → (s.k ≡ 0) ⊎ IsMessage p c (e ∷ h) s.command s.k x.ask
+    by_message (inl n) = inl n
+    by_message (inr m) = inr (message_stays p c e h s.command s.k x.ask l x.is_begun m)
 
 entered_told : (p : Plan) (c begun : ℕ) (h : List Entry) (s : Sent) (o : Outcome) → IsEntered p c begun h s → IsEntered p c begun h (record s { result = Settled o })
-entered_told p c begun h s o x = record { is_begun = x.is_begun; ask = x.ask; is_asked = x.is_asked; number = x.number; writes = x.writes; cause = tt }
-
--- a number is itself
-pub self : (n : ℕ) → (n == n) ≡ true
-self n = grind (arith, nat_tests)
+entered_told p c begun h s o x = record { is_begun = x.is_begun; ask = x.ask; is_asked = x.is_asked; number = x.number; message = x.message; cause = tt }
 
 -- a command that is sent now
 sent_now : (p : Plan) (c i k : ℕ) (e : Entry) (h : List Entry) → e.op ≡ op.Send c i k → k ≡ sends_of c h + 1 → sent_as c i (e ∷ h) ≡ message_number k
-sent_now p c i k e h q f = subst (λ o. or_else (sent_as_in c i o) (sent_as c i h) ≡ message_number k) (sym q) (rw (self c, self i) (number k (sends_of c h) f))
+sent_now p c i k e h q f = subst (λ o. or_else (sent_as_in c i o) (sent_as c i h) ≡ message_number k) (sym q) (rw (itself c, itself i) (number k (sends_of c h) f))
   where
     number : (k n : ℕ) → k ≡ n + 1 → Some k ≡ message_number k
     number k n e = grind (arith, nat_tests)
@@ -157,10 +169,10 @@ unsent_now : (p : Plan) (c i : ℕ) (e : Entry) (h : List Entry) (o : Op) → Is
 unsent_now p c i e h o l q n f = subst (λ z. or_else (sent_as_in c i z) (sent_as c i h) ≡ None) (sym q) (ap (λ z. or_else z (sent_as c i h)) f ∙ only_begun_were_sent p c i h l.0 (omega (arith, n)))
 
 failed_now : (c i : ℕ) (e : Entry) (h : List Entry) → e.op ≡ op.SendFault c i → has_failed_send c i (e ∷ h) ≡ true
-failed_now c i e h q = subst (λ o. (fails_send c i o || has_failed_send c i h) ≡ true) (sym q) (rw (self c, self i) refl)
+failed_now c i e h q = subst (λ o. (fails_send c i o || has_failed_send c i h) ≡ true) (sym q) (rw (itself c, itself i) refl)
 
 seen_now : (c i : ℕ) (e : Entry) (h : List Entry) → e.op ≡ op.Local c i → seen_at c i (e ∷ h) ≡ Some (seen_by c h)
-seen_now c i e h q = subst (λ o. or_else (seen_at_in c i h o) (seen_at c i h) ≡ Some (seen_by c h)) (sym q) (rw (self c, self i) refl)
+seen_now c i e h q = subst (λ o. or_else (seen_at_in c i h o) (seen_at c i h) ≡ Some (seen_by c h)) (sym q) (rw (itself c, itself i) refl)
 
 unfit_is : (w : Want) → is_unfit_want w ≡ true → w ≡ Unfit
 unfit_is Unfit e = refl
@@ -171,13 +183,26 @@ local_cause : (c i : ℕ) (h : List Entry) (a : Ask) (seen : ℕ) (b : Bool) →
 local_cause c i h a seen true e f = unfit_is a.want e
 local_cause c i h a seen false e f = f
 
+message_now : (p : Plan) (c i k : ℕ) (e : Entry) (h : List Entry) (b : BeginsWrite p c i h) → e.op ≡ op.Send c i k → k ≡ sends_of c h + 1 → IsMessage p c (e ∷ h) i k b.begins.ask
+message_now p c i k e h b q n = record {
+  request = b.request;
+  writes = b.writes;
+  asks = ap (request_from p c) origin ∙ (ap written b.begins.is_asked ∙ ap request_in b.writes);
+  seen = seen_by c h;
+  seen_with_it = ap seen_from origin;
+  seen_then = subst (λ o. or_else (seen_at_in c i h o) (seen_at c i h) ≡ Some (seen_by c h)) (sym q) (rw (itself c, itself i) refl);
+}
+  where
+    origin : origin_of c k (e ∷ h) ≡ Some (start.Sent i (seen_by c h))
+    origin = rw (q, n) (grind (arith, nat_tests))
+
 begun_entered : (p : Plan) (c : ℕ) (e : Entry) (h : List Entry) (o : Op) (s : Sent) → IsHistory p (e ∷ h) → e.op ≡ o → client_in o ≡ Some c → OperationSays p c h o → begun_by p c (seen_by c h) o ≡ Some s → IsEntered p c (client_of p c (e ∷ h)).begun (e ∷ h) s
 begun_entered p c e h (op.Send d i k) s l q f a g = subst (IsEntered p c (client_of p c (e ∷ h)).begun (e ∷ h)) (some_same (record { command = i; k = k; result = Open }) s g) (record {
   is_begun = (let n = own_begun p c e h (op.Send d i k) q f in omega (arith, n));
   ask = a.0.begins.ask;
   is_asked = a.0.begins.is_asked;
   number = sent_now p c i k e h (q ∙ ap (λ z. op.Send z i k) (some_same d c f)) a.1;
-  writes = inr (a.0.request, a.0.writes);
+  message = inr (message_now p c i k e h a.0 (q ∙ ap (λ z. op.Send z i k) (some_same d c f)) a.1);
   cause = tt;
 })
 begun_entered p c e h (op.SendFault d i) s l q f a g = subst (IsEntered p c (client_of p c (e ∷ h)).begun (e ∷ h)) (some_same (record { command = i; k = 0; result = Plain code.ConnectionLoss }) s g) (record {
@@ -185,7 +210,7 @@ begun_entered p c e h (op.SendFault d i) s l q f a g = subst (IsEntered p c (cli
   ask = a.begins.ask;
   is_asked = a.begins.is_asked;
   number = unsent_now p c i e h (op.SendFault d i) l q a.begins.next refl;
-  writes = inl refl;
+  message = inl refl;
   cause = failed_now c i e h (q ∙ ap (λ z. op.SendFault z i) (some_same d c f));
 })
 begun_entered p c e h (op.Local d i) s l q f a g = subst (IsEntered p c (client_of p c (e ∷ h)).begun (e ∷ h)) (some_same (record { command = i; k = 0; result = local_result (is_unfit (asked p c i)) (seen_by c h) }) s g) (record {
@@ -193,7 +218,7 @@ begun_entered p c e h (op.Local d i) s l q f a g = subst (IsEntered p c (client_
   ask = a.0.ask;
   is_asked = a.0.is_asked;
   number = unsent_now p c i e h (op.Local d i) l q a.0.next refl;
-  writes = inl refl;
+  message = inl refl;
   cause = local_cause c i (e ∷ h) a.0.ask (seen_by c h) (is_unfit (asked p c i)) (ap is_unfit (sym a.0.is_asked)) (seen_now c i e h (q ∙ ap (λ z. op.Local z i) (some_same d c f)));
 })
 begun_entered p c e h o s l q f a g = absurd (grind arith)
@@ -227,3 +252,17 @@ kept_commands_are_entered p c h s l a = entered p c h l s a
 
 pub commands_of_an_operation_are_entered : CommandsOfAnOperationAreEntered
 commands_of_an_operation_are_entered p c e h s l q a = acted_entered p c e h l q (entered p c h l.0) s a
+
+-- What is known of it. ---------------------------------------------------------------------------------
+
+pub tracked_among : (p : Plan) (c : ℕ) (h : List Entry) (n last : ℕ) (ss : List Sent) (begun top : ℕ) (s : Sent) → AreTracked p c h n last ss begun top → IsAmong s ss → IsTrueResult p c s.k h s.result
+tracked_among p c h n last [] begun top s t i = absurd i
+tracked_among p c h n last (x ∷ xs) begun top s t (inl e) = subst (λ z. IsTrueResult p c z.k h z.result) (sym e) t.2
+tracked_among p c h n last (x ∷ xs) begun top s t (inr i) = tracked_among p c h (n + 1) (later last x.k) xs begun top s t.3 i
+
+pub its_message : (p : Plan) (c begun : ℕ) (h : List Entry) (s : Sent) (x : IsEntered p c begun h s) → 1 ≤ s.k → IsMessage p c h s.command s.k x.ask
+its_message p c begun h s x b = by_message x.message
+  where
+    by_message : (s.k ≡ 0) ⊎ IsMessage p c h s.command s.k x.ask → IsMessage p c h s.command s.k x.ask
+    by_message (inl e) = absurd (omega (arith, b, e))
+    by_message (inr m) = m

@@ -4,6 +4,7 @@ use Rattle.fk_base.specs.declared.code.Code.TheVariants as code
 use Rattle.fk_tree.specs.declared.request.Request.{Request}
 use Rattle.fk_print.specs.declared.entry.Entry.{Entry}
 use Rattle.fk_spec.specs.Plan.{Plan, Ask, Unfit, Writes, asked}
+use Rattle.fk_spec.specs.Start.{request_of, seen_with}
 use Rattle.fk_spec.specs.Client.{client_in, client_of, Result, Plain, Expired, Sent}
 use Rattle.fk_spec.specs.Promises.{sent_as}
 use Rattle.fk_spec.specs.Refusals.{has_failed_send, seen_at}
@@ -35,6 +36,15 @@ HasOwnCause c i h a (Plain code) = ⊥
 HasOwnCause c i h a (Expired at) = seen_at c i h ≡ Some at
 HasOwnCause c i h a _ = Unit {0}
 
+-- message k of session c is command i, which asks for a change; the client had seen as much as it notes
+pub record IsMessage (p : Plan) (c : ℕ) (h : List Entry) (i k : ℕ) (a : Ask) : Type 0 where
+  pub request : Request
+  pub writes : a.want ≡ Writes request
+  pub asks : request_of p c k h ≡ Some request
+  pub seen : ℕ
+  pub seen_with_it : seen_with c k h ≡ seen
+  pub seen_then : seen_at c i h ≡ Some seen
+
 -- a command that client c, which began this many, keeps: one of the deployment's, with the number under which it
 -- was sent; what was sent is a write
 pub record IsEntered (p : Plan) (c begun : ℕ) (h : List Entry) (s : Sent) : Type 0 where
@@ -42,7 +52,7 @@ pub record IsEntered (p : Plan) (c begun : ℕ) (h : List Entry) (s : Sent) : Ty
   pub ask : Ask
   pub is_asked : asked p c s.command ≡ Some ask
   pub number : sent_as c s.command h ≡ message_number s.k
-  pub writes : (s.k ≡ 0) ⊎ ((r : Request) × (ask.want ≡ Writes r))
+  pub message : (s.k ≡ 0) ⊎ IsMessage p c h s.command s.k ask
   pub cause : HasOwnCause c s.command h ask s.result
 
 -- Each command that a client keeps is entered so.
