@@ -136,7 +136,7 @@ not_sought : (i : ℕ) (o : Option ℕ) → target_with i o ≡ None → o ≡ N
 not_sought i None e = refl
 not_sought i (Some n) e = absurd (none_some (record { command = i; number = n }) (sym e))
 
-empty_head : (given removed : ℕ) → head_among given removed ≡ None → given ≤ removed
+pub empty_head : (given removed : ℕ) → head_among given removed ≡ None → given ≤ removed
 empty_head given removed e = grind (arith, nat_tests)
 
 -- where its lane, its inbox and the leader lane are empty, no command that a client sent is open
