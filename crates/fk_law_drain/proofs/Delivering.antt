@@ -254,7 +254,7 @@ record RemovesIt (p : Plan) (c k : ℕ) (h : List Entry) : Type 0 where
   pub its_session : worker.session ≡ c
   pub its_number : worker.k ≡ k
 
-head_is : (given removed k : ℕ) → head_among given removed ≡ Some k → removed + 1 ≡ k
+pub head_is : (given removed k : ℕ) → head_among given removed ≡ Some k → removed + 1 ≡ k
 head_is given removed k e = grind (arith, nat_tests)
 
 removed_low : (w : Option Task → Bool) (n : ℕ) (h : List Entry) (r k : ℕ) → r < k → k ≤ removed_in w h (op.AckOk n) r → (w (task_of n h) ≡ true) × (k ≡ r + 1)

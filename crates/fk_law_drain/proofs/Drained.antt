@@ -236,15 +236,15 @@ neither : {A : Type 0} → (o q : Option A) → or_else o q ≡ None → (o ≡ 
 neither None q e = (refl, e)
 neither (Some x) q e = absurd (none_some x (sym e))
 
-no_step : (ns : List ℕ) → step_of_first ns ≡ None → ns ≡ []
+pub no_step : (ns : List ℕ) → step_of_first ns ≡ None → ns ≡ []
 no_step [] e = refl
 no_step (n ∷ ns) e = absurd (none_some (event.Step n) (sym e))
 
-no_note : (o : Option ℕ) → tell_where o ≡ None → o ≡ None
+pub no_note : (o : Option ℕ) → tell_where o ≡ None → o ≡ None
 no_note None e = refl
 no_note (Some w) e = absurd (none_some event.Watch (sym e))
 
-no_push : (o : Option ℕ) → lead_where o ≡ None → o ≡ None
+pub no_push : (o : Option ℕ) → lead_where o ≡ None → o ≡ None
 no_push None e = refl
 no_push (Some t) e = absurd (none_some event.Leader (sym e))
 

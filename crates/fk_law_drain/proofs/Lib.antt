@@ -1,5 +1,10 @@
 pub mod Answering
 pub mod Awaiting
+pub mod Choosing
 pub mod Delivering
 pub mod Drained
+pub mod Draining
 pub mod Looking
+pub mod Stepping
+pub mod Turning
+pub mod Unhindered
