@@ -55,6 +55,13 @@ pub record StartsIt (o : Op) (n : ℕ) (t : Task) : Type 0 where
   pub grants : NoGrant o
   pub acks : NotAck o
 
+-- where a function stands that is started
+pub started_place : (p : Plan) (n : ℕ) (t : Task) (e : Entry) (h : List Entry) → StartsIt e.op n t → place_of p n (e ∷ h) ≡ placed p h t
+started_place p n t e h s =
+    ap (λ z. place_by p n h e.op z (place_of p n h)) s.acts_none
+    ∙ (ap (λ z. started_at p n h z (place_of p n h)) s.started
+    ∙ ap (λ b. if b then placed p h t else place_of p n h) (itself n))
+
 start_calm : (p : Plan) (n : ℕ) (t : Task) (e : Entry) (h : List Entry) → IsHistory p (e ∷ h) → IsCalm p (starts_of h) h → in_flight p h ≡ [] → StartsIt e.op n t → n ≡ starts_of h + 1 → WorksOnTheHead (e ∷ h) (placed p h t) → IsCalm p n (e ∷ h)
 start_calm p n t e h l i a s f w = record {
   last = f ∙ sym (ap (λ z. count_start z (starts_of h)) s.started);
@@ -62,17 +69,11 @@ start_calm p n t e h l i a s f w = record {
       (λ _ b. absurd (false≢true (sym b ∙ none_stands p m h l.0 a)))
       (λ x q b _. sym b ∙ sym (ap (λ z. z.function) (some_same (record { function = n; task = t }) x (sym s.started ∙ q))))
       (λ b _. absurd (none_some m (sym s.acts_none ∙ b)));
-  works = subst (WorksOnTheHead (e ∷ h)) (sym stands) w;
+  works = subst (WorksOnTheHead (e ∷ h)) (sym (started_place p n t e h s)) w;
   own = λ path _ g. absurd (new path (subst (λ z. has_path path z ≡ true) (other_granted n e.op (granted n h) s.grants) g));
   free = λ path. may_stay p n e h path s.grants (none_hold p (starts_of h) h path l.0 a (i.free path));
 }
   where
-    stands : place_of p n (e ∷ h) ≡ placed p h t
-    stands =
-        ap (λ z. place_by p n h e.op z (place_of p n h)) s.acts_none
-        ∙ (ap (λ z. started_at p n h z (place_of p n h)) s.started
-        ∙ ap (λ b. if b then placed p h t else place_of p n h) (itself n))
-
     new : (path : PathNames) → has_path path (granted n h) ≡ true → ⊥
     new path g = let x = locks_are_followers p n path h l.0 g in let y = (task_bound p n h (Follows x.0 x.1) l.0 x.2).1 in omega (arith, y, f)
 
@@ -124,7 +125,7 @@ turn_calm p e h l i a o = record {
 
 -- Events. ----------------------------------------------------------------------------------------------
 
-op_at : (p : Plan) (e : Entry) (h : List Entry) (v : Event) → IsHistory p (e ∷ h) → e.event ≡ v → e.op ≡ next_op p h v
+pub op_at : (p : Plan) (e : Entry) (h : List Entry) (v : Event) → IsHistory p (e ∷ h) → e.event ≡ v → e.op ≡ next_op p h v
 op_at p e h v l q = ap (λ x. x.op) l.1.0 ∙ ap (next_op p h) q
 
 calm_last : (p : Plan) (n : ℕ) (h : List Entry) → IsCalm p n h → IsCalm p (starts_of h) h

@@ -332,7 +332,7 @@ holds_none p n h path x b i (inr y) = absurd (i (subst IsHolder b y.0))
 no_start : (o : Op) (n : ℕ) → actor o ≡ Some n → started_in o ≡ None
 no_start o n e = grind arith
 
-same_starts : (p : Plan) (n : ℕ) (e : Entry) (h : List Entry) → actor e.op ≡ Some n → starts_of (e ∷ h) ≡ starts_of h
+pub same_starts : (p : Plan) (n : ℕ) (e : Entry) (h : List Entry) → actor e.op ≡ Some n → starts_of (e ∷ h) ≡ starts_of h
 same_starts p n e h a = ap (λ z. count_start z (starts_of h)) (no_start e.op n a)
 
 stepped_one : (p : Plan) (n m : ℕ) (e : Entry) (h : List Entry) → actor e.op ≡ Some n → ((k : ℕ) → is_absent (place_of p k h) ≡ false → k ≡ n) → is_absent (place_of p m (e ∷ h)) ≡ false → m ≡ n

@@ -1,5 +1,6 @@
 pub mod Answering
 pub mod Delivering
-pub mod Draining
 pub mod Drained
+pub mod Draining
+pub mod Falling
 pub mod Looking
