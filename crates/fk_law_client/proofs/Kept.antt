@@ -14,6 +14,7 @@ use Rattle.fk_spec.specs.Client.{acted_by, by_result, client_by, client_in, clie
 use Rattle.fk_law_client.specs.Lines.{IsAmong}
 use Rattle.fk_law_client.specs.Kept.{KeptFrom, Before, Told, Begun, KeptCommandsHaveTheirSource}
 use Rattle.fk_law_client.proofs.Messages.{same_number}
+use Rattle.fk_law.proofs.Numbers.{itself}
 
 -- A client after an entry is as it was, or as its own operation leaves it.
 pub client_after : (p : Plan) (c : ℕ) (e : Entry) (h : List Entry) (P : Client Sent → Type 0) → P (client_of p c h) → (client_in e.op ≡ Some c → P (flushed by_result (acted_by (sight_of p c h) e.op (client_of p c h)))) → P (client_of p c (e ∷ h))
@@ -111,3 +112,11 @@ kept_commands_have_their_source p c h (op.TakeRefused d k) s a = from_kept p c k
 kept_commands_have_their_source p c h (op.TakeLost d k) s a = from_kept p c k h (op.TakeLost d k) (kept_outcome (sight_of p c h).head) s a
 kept_commands_have_their_source p c h (op.LookOk d i m) s a = Before (from_looked p c h s (client_of p c h).reading a)
 kept_commands_have_their_source p c h o s a = Before a
+
+-- A client after its own operation.
+pub own_client : (p : Plan) (c : ℕ) (e : Entry) (h : List Entry) → client_in e.op ≡ Some c → client_of p c (e ∷ h) ≡ flushed by_result (acted_by (sight_of p c h) e.op (client_of p c h))
+own_client p c e h q = subst (λ z. client_by (sight_of p c h) z e.op (client_of p c h) ≡ flushed by_result (acted_by (sight_of p c h) e.op (client_of p c h))) (sym q) (by_self (c == c) refl)
+  where
+    by_self : (b : Bool) → (c == c) ≡ b → (if b then flushed by_result (acted_by (sight_of p c h) e.op (client_of p c h)) else client_of p c h) ≡ flushed by_result (acted_by (sight_of p c h) e.op (client_of p c h))
+    by_self true f = refl
+    by_self false f = absurd (false≢true (sym f ∙ itself c))

@@ -95,7 +95,7 @@ none_sent_sought [] t e q = none_some t q
 none_sent_sought (s ∷ ss) t e q = grind arith
 
 -- what is looked for while a read is made is the read's number
-read_sought : (p : Plan) (c i n : ℕ) (h : List Entry) (r : Reading) → (client_of p c h).sent ≡ [] → target_of by_result (seen_by c h) (client_of p c h) (Some r) ≡ Some (record { command = i; number = n }) → number_read (seen_by c h) r ≡ n
+pub read_sought : (p : Plan) (c i n : ℕ) (h : List Entry) (r : Reading) → (client_of p c h).sent ≡ [] → target_of by_result (seen_by c h) (client_of p c h) (Some r) ≡ Some (record { command = i; number = n }) → number_read (seen_by c h) r ≡ n
 read_sought p c i n h r e q = by_flag r.looked q
   where
     by_flag : (b : Bool) → (if b then target_sent by_result (client_of p c h).sent else Some (record { command = (client_of p c h).begun + 1; number = number_read (seen_by c h) r })) ≡ Some (record { command = i; number = n }) → number_read (seen_by c h) r ≡ n

@@ -7,6 +7,7 @@ pub mod Drained
 pub mod Draining
 pub mod Falling
 pub mod FunctionsFall
+pub mod Holding
 pub mod Looking
 pub mod Stepping
 pub mod StepsFall

@@ -149,7 +149,7 @@ first_shows p h c n s ss xs rest m e q =
     subst (λ z. n ≤ seen_lines c (first_line (wording p c h) z ++ rest) m) (sym e)
     (let a = line_shows c n m (shown_number (shown_result p h s.result)) q in let b = seen_grows c rest (seen_in c (reply_line (wording p c h) s) m) in omega (arith, a, b))
 
-reply_number : (t : ℕ) (r : Reply) → shown_number (shown_reply t r) ≡ Some t
+pub reply_number : (t : ℕ) (r : Reply) → shown_number (shown_reply t r) ≡ Some t
 reply_number t (reply.Created path) = refl
 reply_number t (reply.Version version) = refl
 reply_number t reply.Deleted = refl
@@ -160,7 +160,7 @@ applied_number : (t : ℕ) (o : Option Applied) → shown_number (shown_applied 
 applied_number t None = refl
 applied_number t (Some a) = reply_number t (reply_of a)
 
-sought_shown : (p : Plan) (h : List Entry) (n : ℕ) (r : Result) → number_looked_for r ≡ Some n → shown_number (shown_result p h r) ≡ Some n
+pub sought_shown : (p : Plan) (h : List Entry) (n : ℕ) (r : Result) → number_looked_for r ≡ Some n → shown_number (shown_result p h r) ≡ Some n
 sought_shown p h n Open e = absurd (none_some n e)
 sought_shown p h n (Settled (Committed t)) e = applied_number t (committed_as p t h) ∙ e
 sought_shown p h n (Settled (Refused cd place at)) e = e
@@ -168,7 +168,7 @@ sought_shown p h n (Settled (Passed loss)) e = absurd (none_some n e)
 sought_shown p h n (Plain cd) e = absurd (none_some n e)
 sought_shown p h n (Expired at) e = absurd (none_some n e)
 
-first_sought : (s : Sent) (i n : ℕ) → target_with s.command (number_looked_for s.result) ≡ Some (record { command = i; number = n }) → number_looked_for s.result ≡ Some n
+pub first_sought : (s : Sent) (i n : ℕ) → target_with s.command (number_looked_for s.result) ≡ Some (record { command = i; number = n }) → number_looked_for s.result ≡ Some n
 first_sought s i n q = by_number (number_looked_for s.result) q
   where
     by_number : (o : Option ℕ) → target_with s.command o ≡ Some (record { command = i; number = n }) → o ≡ Some n

@@ -1,0 +1,10 @@
+pub mod Announcing
+pub mod Changing
+pub mod Differing
+pub mod Firings
+pub mod Following
+pub mod Holding
+pub mod Passing
+pub mod Telling
+pub mod Matching
+pub mod Lines

@@ -1,0 +1,4 @@
+pub mod Announced
+pub mod Firings
+pub mod Held
+pub mod Matching
