@@ -17,7 +17,7 @@ use Rattle.fk_spec.specs.Shown.{seen_by}
 use Rattle.fk_spec.specs.Settling.{Outcome, Committed, Passed, mark_of}
 use Rattle.fk_spec.specs.Stored.{stamp_of}
 use Rattle.fk_spec.specs.Watches.{last_sweep, sweep_of_path, touches_from}
-use Rattle.fk_spec.specs.Lanes.{Message, Done, Evicted, Kept, Ping, Watch, inbox_after, inbox_of, leader_head, posted_in, takes, without_first}
+use Rattle.fk_spec.specs.Lanes.{Message, Done, Evicted, Kept, Ping, Watch, inbox_after, inbox_of, leader_head, posted_in, takes, watch_head, without_first}
 use Rattle.fk_spec.specs.Sight.{sight_of}
 use Rattle.fk_spec.specs.Client.{acted_by, by_result, client_by, client_in, client_of, close_if, flushed, is_close, is_open, is_ready, kept_outcome, looked, looked_at, looked_for, number_looked_for, number_read, path_read, path_wanted, registers, settle_with, settled_as, target_of, target_sent, target_with, with_told, without, without_ready, Client, Expired, Open, Plain, Reading, Result, Sent, Settled, Target}
 use Rattle.fk_spec.specs.Next.{IsHistory}
@@ -34,7 +34,8 @@ use Rattle.fk_law_client.proofs.Tracking.{seen_grows}
 use Rattle.fk_law_reply.specs.Plans.{HasFittingVerbs}
 use Rattle.fk_law_reply.specs.Reads.{IsMadeRead}
 use Rattle.fk_law_reply.proofs.Finding.{reads_show_the_tree}
-use Rattle.fk_law_drain.specs.Falling.{IsHeldLook, client_weight, outcomes_of, read_left}
+use Rattle.fk_law_drain.specs.Falling.{client_weight, outcomes_of, read_left}
+use Rattle.fk_law_drain.proofs.Holding.{no_look_is_held}
 use Rattle.fk_law_drain.proofs.Looking.{committed_is_published, looked_for_is_published}
 use Rattle.fk_law_drain.proofs.Turning.{IsTurnOf}
 
@@ -129,11 +130,10 @@ NoSend (op.Send d i k) = ⊥
 NoSend (op.Evict n k) = ⊥
 NoSend _ = Unit {0}
 
--- a client's turn: it begins a command more, or has less to do, or is held
+-- a client's turn: it begins a command more, or has less to do
 pub data TurnFalls (p : Plan) (c : ℕ) (e : Entry) (h : List Entry) : Type 0 where
   BeginsMore : (client_of p c h).begun < length (asks_in p c) → (client_of p c (e ∷ h)).begun ≡ (client_of p c h).begun + 1 → TurnFalls p c e h
   HasLess : NoSend e.op → (client_of p c (e ∷ h)).begun ≡ (client_of p c h).begun → client_weight p (e ∷ h) c < client_weight p h c → TurnFalls p c e h
-  IsHeld : IsHeldLook e.op → TurnFalls p c e h
 
 begun_is : (p : Plan) (c : ℕ) (e : Entry) (h : List Entry) (o : Op) → e.op ≡ o → client_in o ≡ Some c → (client_of p c (e ∷ h)).begun ≡ (acted_by (sight_of p c h) o (client_of p c h)).begun
 begun_is p c e h o q f = ap (λ z. z.begun) (own_client p c e h (ap client_in q ∙ f)) ∙ ap (λ z. (acted_by (sight_of p c h) z (client_of p c h)).begun) q
@@ -381,25 +381,25 @@ pinged_owed n false owed = let a = appended owed in omega (arith, a)
     appended [] = omega arith
     appended (x ∷ xs) = let a = appended xs in omega (arith, a)
 
--- A client's turn, where the lanes are empty, leaves it less to do or is held.
-pub turn_falls : (p : Plan) (c : ℕ) (e : Entry) (h : List Entry) (o : Op) → HasFittingVerbs p → IsHistory p (e ∷ h) → leader_head h ≡ None → e.op ≡ o → client_in o ≡ Some c → IsTurnOf c o → IsDue p h o → OperationSays p c h o → TurnFalls p c e h
-turn_falls p c e h (op.Pong d n) v l b q f t i a = pong_falls p c d n e h a.0 q t a.1
-turn_falls p c e h (op.TakeDone d k u) v l b q f t i a = takes_less p c d e h (Done k u) i.0 (op.TakeDone d k u) tt q f t refl i.1 refl refl (omega arith) (outcomes_told k (Settled (Committed u)) (client_of p c h).sent)
-turn_falls p c e h (op.TakeEvicted d k u) v l b q f t i a = takes_less p c d e h (Evicted k u) i.0 (op.TakeEvicted d k u) tt q f t refl i.1 refl refl (omega arith) (omega arith)
-turn_falls p c e h (op.TakeRefused d k) v l b q f t i a = let s = settled_begun k (kept_outcome (sight_of p c h).head) (client_of p c h) in takes_less p c d e h (Kept k i.0) i.1 (op.TakeRefused d k) tt q f t refl i.2 s.0 s.1 (let y = ap length s.2 in omega (arith, y)) (settled_sent k (kept_outcome (sight_of p c h).head) (client_of p c h))
-turn_falls p c e h (op.TakeLost d k) v l b q f t i a = let s = settled_begun k (kept_outcome (sight_of p c h).head) (client_of p c h) in takes_less p c d e h (Kept k (Passed i.0)) i.1 (op.TakeLost d k) tt q f t refl i.2 s.0 s.1 (let y = ap length s.2 in omega (arith, y)) (settled_sent k (kept_outcome (sight_of p c h).head) (client_of p c h))
-turn_falls p c e h (op.TakeWatch d w) v l b q f t i a = takes_less p c d e h (Watch w) i.0 (op.TakeWatch d w) tt q f t refl i.1 refl refl (omega arith) (omega arith)
-turn_falls p c e h (op.TakePing d n) v l b q f t i a = takes_less p c d e h (Ping n) i.0 (op.TakePing d n) tt q f t refl i.1 refl refl (pinged_owed n (client_of p c h).closed (client_of p c h).owed) (omega arith)
-turn_falls p c e h (op.LookOk d j m) v l b q f t i a = look_falls p c d j m e h v l q t a.0 (client_of p c h).reading refl
-turn_falls p c e h (op.LookBehind d j m) v l b q f t i a = absurd (let y = looked_for_is_published p c h (record { command = j; number = a.0.number }) v l.0 b a.0.target in let z = a.2 in omega (arith, y, z))
-turn_falls p c e h (op.LookHeld d j m w) v l b q f t i a = IsHeld (subst IsHeldLook (sym q) tt)
-turn_falls p c e h (op.Send d j k) v l b q f t i a = begins p c j e h a.0.begins.ask (op.Send d j k) q f a.0.begins.next a.0.begins.is_asked a.0.begins.next
-turn_falls p c e h (op.Read d j s) v l b q f t i a = read_falls p c d j s e h l b q t a.0 a.1
-turn_falls p c e h (op.WatchSet d j w) v l b q f t i a = begins p c j e h a.0.ask (op.WatchSet d j w) q f a.0.next a.0.is_asked refl
-turn_falls p c e h (op.WatchSwept d j u) v l b q f t i a = swept_falls p c d j u e h l q t a.0 a.1 a.2
-turn_falls p c e h (op.Local d j) v l b q f t i a = begins p c j e h a.0.ask (op.Local d j) q f a.0.next a.0.is_asked a.0.next
-turn_falls p c e h op.Idle v l b q f t i a = absurd (none_some c f)
-turn_falls p c e h o v l b q f t i a = absurd t
+-- A client's turn, where the lanes are empty, leaves it less to do.
+pub turn_falls : (p : Plan) (c : ℕ) (e : Entry) (h : List Entry) (o : Op) → HasFittingVerbs p → IsHistory p (e ∷ h) → leader_head h ≡ None → watch_head h ≡ None → e.op ≡ o → client_in o ≡ Some c → IsTurnOf c o → IsDue p h o → OperationSays p c h o → TurnFalls p c e h
+turn_falls p c e h (op.Pong d ping) v l b n q f t i a = pong_falls p c d ping e h a.0 q t a.1
+turn_falls p c e h (op.TakeDone d k u) v l b n q f t i a = takes_less p c d e h (Done k u) i.0 (op.TakeDone d k u) tt q f t refl i.1 refl refl (omega arith) (outcomes_told k (Settled (Committed u)) (client_of p c h).sent)
+turn_falls p c e h (op.TakeEvicted d k u) v l b n q f t i a = takes_less p c d e h (Evicted k u) i.0 (op.TakeEvicted d k u) tt q f t refl i.1 refl refl (omega arith) (omega arith)
+turn_falls p c e h (op.TakeRefused d k) v l b n q f t i a = let s = settled_begun k (kept_outcome (sight_of p c h).head) (client_of p c h) in takes_less p c d e h (Kept k i.0) i.1 (op.TakeRefused d k) tt q f t refl i.2 s.0 s.1 (let y = ap length s.2 in omega (arith, y)) (settled_sent k (kept_outcome (sight_of p c h).head) (client_of p c h))
+turn_falls p c e h (op.TakeLost d k) v l b n q f t i a = let s = settled_begun k (kept_outcome (sight_of p c h).head) (client_of p c h) in takes_less p c d e h (Kept k (Passed i.0)) i.1 (op.TakeLost d k) tt q f t refl i.2 s.0 s.1 (let y = ap length s.2 in omega (arith, y)) (settled_sent k (kept_outcome (sight_of p c h).head) (client_of p c h))
+turn_falls p c e h (op.TakeWatch d w) v l b n q f t i a = takes_less p c d e h (Watch w) i.0 (op.TakeWatch d w) tt q f t refl i.1 refl refl (omega arith) (omega arith)
+turn_falls p c e h (op.TakePing d ping) v l b n q f t i a = takes_less p c d e h (Ping ping) i.0 (op.TakePing d ping) tt q f t refl i.1 refl refl (pinged_owed ping (client_of p c h).closed (client_of p c h).owed) (omega arith)
+turn_falls p c e h (op.LookOk d j m) v l b n q f t i a = look_falls p c d j m e h v l q t a.0 (client_of p c h).reading refl
+turn_falls p c e h (op.LookBehind d j m) v l b n q f t i a = absurd (let y = looked_for_is_published p c h (record { command = j; number = a.0.number }) v l.0 b a.0.target in let z = a.2 in omega (arith, y, z))
+turn_falls p c e h (op.LookHeld d j m w) v l b n q f t i a = absurd (none_some w (sym (no_look_is_held p c h l.0 b n a.0.first.inbox) ∙ a.3))
+turn_falls p c e h (op.Send d j k) v l b n q f t i a = begins p c j e h a.0.begins.ask (op.Send d j k) q f a.0.begins.next a.0.begins.is_asked a.0.begins.next
+turn_falls p c e h (op.Read d j s) v l b n q f t i a = read_falls p c d j s e h l b q t a.0 a.1
+turn_falls p c e h (op.WatchSet d j w) v l b n q f t i a = begins p c j e h a.0.ask (op.WatchSet d j w) q f a.0.next a.0.is_asked refl
+turn_falls p c e h (op.WatchSwept d j u) v l b n q f t i a = swept_falls p c d j u e h l q t a.0 a.1 a.2
+turn_falls p c e h (op.Local d j) v l b n q f t i a = begins p c j e h a.0.ask (op.Local d j) q f a.0.next a.0.is_asked a.0.next
+turn_falls p c e h op.Idle v l b n q f t i a = absurd (none_some c f)
+turn_falls p c e h o v l b n q f t i a = absurd t
 
 -- Other clients. ---------------------------------------------------------------------------------------
 

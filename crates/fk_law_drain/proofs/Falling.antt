@@ -1,6 +1,6 @@
 -- Each event of a drain lowers a rank.
 use Rattle.std.specs.Prelude.{◌==◌, ◌-◌, if◌then◌else◌}
-use Rattle.std.proofs.Common.{◌≡◌, ℕ, ◌+◌, ◌≤◌, ◌⊎◌, inl, inr, Bool, true, false, List, [], ◌∷◌, length, refl, sym, ◌∙◌, ap, subst, arith, Option, Some, None}
+use Rattle.std.proofs.Common.{◌≡◌, ℕ, ◌+◌, ◌≤◌, inl, Bool, true, false, List, [], ◌∷◌, length, refl, sym, ◌∙◌, ap, subst, arith, Option, Some, None}
 use Rattle.std.proofs.lemmas.Bool.{false≢true}
 use Rattle.std.proofs.lemmas.Bool.Decides.{nat_tests}
 use Rattle.fk_print.specs.declared.entry.Entry.{Entry}
@@ -26,9 +26,9 @@ use Rattle.fk_law_client.proofs.Messages.{none_some}
 use Rattle.fk_law_client.proofs.Operating.{client_operations_say}
 use Rattle.fk_law_reply.specs.Plans.{HasFittingVerbs}
 use Rattle.fk_law_drain.specs.Draining.{IsCalm, WorksOnTheHead}
-use Rattle.fk_law_drain.specs.Falling.{DrainFalls, IsHeldLook, IsLower, client_sum, client_weight, commands_left, rank, requests_left}
+use Rattle.fk_law_drain.specs.Falling.{DrainFalls, IsLower, client_sum, client_weight, commands_left, rank, requests_left}
 use Rattle.fk_law_drain.proofs.Choosing.{Chooses, Delivers, Leads, Steps, Tells, Turns, drain_chooses, none_stands}
-use Rattle.fk_law_drain.proofs.ClientsFall.{BeginsMore, HasLess, IsHeld, NoSend, TurnFalls, other_client, turn_falls, weight_other}
+use Rattle.fk_law_drain.proofs.ClientsFall.{BeginsMore, HasLess, NoSend, TurnFalls, other_client, turn_falls, weight_other}
 use Rattle.fk_law_drain.proofs.Draining.{IsIdleOp, StartsIt, client_acts, drains_are_calm, follower_starts, leader_starts, op_at, started_place, steps_on, teller_starts, turns_own, unmoved}
 use Rattle.fk_law_drain.proofs.Stepping.{not_removed, same_starts}
 use Rattle.fk_law_drain.proofs.Summing.{sum_falls, sum_same}
@@ -113,9 +113,8 @@ turn_notes_none : (c : ℕ) (o : Op) → client_in o ≡ Some c → NoNote o
 turn_notes_none c (op.Notify n t w) q = absurd (none_some c q)
 turn_notes_none c o q = tt
 
-turned : (p : Plan) (c : ℕ) (e : Entry) (h : List Entry) → is_client p c ≡ true → client_in e.op ≡ Some c → TurnFalls p c e h → Falls (parts p (e ∷ h) Absent) (parts p h Absent) ⊎ IsHeldLook e.op
-turned p c e h r q (IsHeld i) = inr i
-turned p c e h r q (BeginsMore a b) = let s = in_range p c r in inl (ByCommands (sum_falls (commands_left p (e ∷ h)) (commands_left p h) p.asks 1 c s.0 s.1 (λ d. most d (c == d) refl) (omega (arith, a, b))))
+turned : (p : Plan) (c : ℕ) (e : Entry) (h : List Entry) → is_client p c ≡ true → client_in e.op ≡ Some c → TurnFalls p c e h → Falls (parts p (e ∷ h) Absent) (parts p h Absent)
+turned p c e h r q (BeginsMore a b) = let s = in_range p c r in ByCommands (sum_falls (commands_left p (e ∷ h)) (commands_left p h) p.asks 1 c s.0 s.1 (λ d. most d (c == d) refl) (omega (arith, a, b)))
   where
     most : (d : ℕ) (x : Bool) → (c == d) ≡ x → commands_left p (e ∷ h) d ≤ commands_left p h d
     most d true f = subst (λ z. commands_left p (e ∷ h) z ≤ commands_left p h z) (same f) (omega (arith, b))
@@ -123,7 +122,7 @@ turned p c e h r q (BeginsMore a b) = let s = in_range p c r in inl (ByCommands 
         same : (c == d) ≡ true → c ≡ d
         same f = grind (arith, nat_tests)
     most d false f = let y = ap (λ z. z.begun) (other_client p d c e h q f) in omega (arith, y)
-turned p c e h r q (HasLess k b w) = inl (ByClients (sum_same (commands_left p (e ∷ h)) (commands_left p h) p.asks 1 (λ d. even d (c == d) refl)) (same_requests p e h k (λ d. not_removed (follows_session d) h e.op (removed_by (follows_session d) h) i.acks)) refl pushes refl notes refl (let s = in_range p c r in sum_falls (client_weight p (e ∷ h)) (client_weight p h) p.asks 1 c s.0 s.1 (λ d. most d (c == d) refl) w))
+turned p c e h r q (HasLess k b w) = ByClients (sum_same (commands_left p (e ∷ h)) (commands_left p h) p.asks 1 (λ d. even d (c == d) refl)) (same_requests p e h k (λ d. not_removed (follows_session d) h e.op (removed_by (follows_session d) h) i.acks)) refl pushes refl notes refl (let s = in_range p c r in sum_falls (client_weight p (e ∷ h)) (client_weight p h) p.asks 1 c s.0 s.1 (λ d. most d (c == d) refl) w)
   where
     i : IsIdleOp e.op
     i = client_acts e.op c q
@@ -159,19 +158,19 @@ none_is p n h l a = absent_is (place_of p n h) (none_stands p n h l a)
 begins_lower : (p : Plan) (t : Task) (e : Entry) (h : List Entry) (x : Place) → IsHistory p (e ∷ h) → in_flight p h ≡ [] → StartsIt e.op (starts_of h + 1) t → placed p h t ≡ x → Falls (parts p (e ∷ h) x) (parts p h Absent) → IsLower (rank p (e ∷ h)) (rank p h)
 begins_lower p t e h x l a s q f = lower_rank p (starts_of h + 1) (starts_of h) x Absent e h (ap (λ z. count_start z (starts_of h)) s.started) (started_place p (starts_of h + 1) t e h s ∙ q) refl (none_is p (starts_of h) h l.0 a) f
 
-chosen_falls : (p : Plan) (e : Entry) (h : List Entry) (v : Event) → HasFittingVerbs p → IsHistory p (e ∷ h) → IsCalm p (starts_of h) h → e.event ≡ v → Chooses p h v → IsLower (rank p (e ∷ h)) (rank p h) ⊎ IsHeldLook e.op
+chosen_falls : (p : Plan) (e : Entry) (h : List Entry) (v : Event) → HasFittingVerbs p → IsHistory p (e ∷ h) → IsCalm p (starts_of h) h → e.event ≡ v → Chooses p h v → IsLower (rank p (e ∷ h)) (rank p h)
 chosen_falls p e h _ v l i q (Steps n a) =
     let g = steps_on p n e h l i q a in
     let m = i.one n a in
-    inl (lower_rank p n n (place_of p n (e ∷ h)) (place_of p n h) e h (same_starts p n e h g.1 ∙ sym m) refl (sym m) refl (step_falls p n e h l a g (subst (λ z. WorksOnTheHead h (place_of p z h)) (sym m) i.works)))
-chosen_falls p e h _ v l i q (Delivers c k a b) = let s = follower_starts p c k e h l q b in inl (begins_lower p (Follows c k) e h (Following (begin c k)) l a s refl (deliver_falls p c k e h (start_same p (starts_of h + 1) (Follows c k) e h s)))
-chosen_falls p e h _ v l i q (Leads t a b) = let s = leader_starts p t e h l q b in inl (begins_lower p (start.Leads t) e h (Leading t leader.Commit) l a s refl (lead_falls p t e h (start_same p (starts_of h + 1) (start.Leads t) e h s)))
+    lower_rank p n n (place_of p n (e ∷ h)) (place_of p n h) e h (same_starts p n e h g.1 ∙ sym m) refl (sym m) refl (step_falls p n e h l a g (subst (λ z. WorksOnTheHead h (place_of p z h)) (sym m) i.works))
+chosen_falls p e h _ v l i q (Delivers c k a b) = let s = follower_starts p c k e h l q b in begins_lower p (Follows c k) e h (Following (begin c k)) l a s refl (deliver_falls p c k e h (start_same p (starts_of h + 1) (Follows c k) e h s))
+chosen_falls p e h _ v l i q (Leads t a b) = let s = leader_starts p t e h l q b in begins_lower p (start.Leads t) e h (Leading t leader.Commit) l a s refl (lead_falls p t e h (start_same p (starts_of h + 1) (start.Leads t) e h s))
 chosen_falls p e h _ v l i q (Tells w a b) =
     let s = teller_starts p w e h l q b in
     let g = head_given (notes_of h) (removed_by notifies h) w b in
     let x = note_there p w h l.0 g.0 g.1 in
-    inl (begins_lower p (Notifies w) e h (telling w (Some x.0)) l a s (ap (telling w) x.1) (tell_falls p w e h x.0 (start_same p (starts_of h + 1) (Notifies w) e h s)))
-chosen_falls p e h _ v l i q (Turns c a b d f) = by_turn (turned p c e h (subst (λ z. names_client p z ≡ true) q l.1.1) own (turn_falls p c e h e.op v l d refl own turn (due p e h l) (client_operations_say p c e h l own)))
+    begins_lower p (Notifies w) e h (telling w (Some x.0)) l a s (ap (telling w) x.1) (tell_falls p w e h x.0 (start_same p (starts_of h + 1) (Notifies w) e h s))
+chosen_falls p e h _ v l i q (Turns c a b d f) = by_turn (turned p c e h (subst (λ z. names_client p z ≡ true) q l.1.1) own (turn_falls p c e h e.op v l d b refl own turn (due p e h l) (client_operations_say p c e h l own)))
   where
     own : client_in e.op ≡ Some c
     own = turns_own p c e h l q f
@@ -182,9 +181,8 @@ chosen_falls p e h _ v l i q (Turns c a b d f) = by_turn (turned p c e h (subst 
     o : IsIdleOp e.op
     o = client_acts e.op c own
 
-    by_turn : Falls (parts p (e ∷ h) Absent) (parts p h Absent) ⊎ IsHeldLook e.op → IsLower (rank p (e ∷ h)) (rank p h) ⊎ IsHeldLook e.op
-    by_turn (inr k) = inr k
-    by_turn (inl k) = inl (lower_rank p (starts_of h) (starts_of h) Absent Absent e h (ap (λ z. count_start z (starts_of h)) o.starts) (unmoved p (starts_of h) e h o ∙ none_is p (starts_of h) h l.0 a) refl (none_is p (starts_of h) h l.0 a) k)
+    by_turn : Falls (parts p (e ∷ h) Absent) (parts p h Absent) → IsLower (rank p (e ∷ h)) (rank p h)
+    by_turn k = lower_rank p (starts_of h) (starts_of h) Absent Absent e h (ap (λ z. count_start z (starts_of h)) o.starts) (unmoved p (starts_of h) e h o ∙ none_is p (starts_of h) h l.0 a) refl (none_is p (starts_of h) h l.0 a) k
 
 pub drain_falls : DrainFalls
 drain_falls p h x v l d e = chosen_falls p x h x.event v l (drains_are_calm p h l.0 d) refl (drain_chooses p h x.event e)

@@ -6,8 +6,6 @@ use Rattle.fk_tree.specs.Sorted.{in_path_order}
 use Rattle.fk_tree.specs.declared.request.Request.{Request}
 use Rattle.fk_tree.specs.declared.request.Request.TheVariants as request
 use Rattle.fk_print.specs.declared.entry.Entry.{Entry}
-use Rattle.fk_print.specs.declared.op.Op.{Op}
-use Rattle.fk_print.specs.declared.op.Op.TheVariants as op
 use Rattle.fk_spec.specs.Plan.{Plan, Ask, asked, asks_in}
 use Rattle.fk_spec.specs.Shown.{seen_by}
 use Rattle.fk_spec.specs.Start.{pushes_of, request_of, sends_of, starts_of}
@@ -134,11 +132,6 @@ rank p h =
     client_sum (commands_left p h) p.asks 1 ∷ client_sum (requests_left h) p.asks 1
     ∷ (follower_rank p h x ++ ((pushes_of h - removed_by leads h) ∷ (leader_rank x ++ ((notes_of h - removed_by notifies h) ∷ (teller_rank x ++ (client_sum (client_weight p h) p.asks 1 ∷ []))))))
 
--- a look that finds a watch which the client holds in the epoch
-abbrev pub IsHeldLook : Op → Type 0
-IsHeldLook (op.LookHeld session command mark watch) = Unit {0}
-IsHeldLook _ = ⊥
-
--- Each event of a drain lowers the rank, unless it is a look that is held.
+-- Each event of a drain lowers the rank.
 abbrev pub DrainFalls : Type 0
-DrainFalls = (p : Plan) (h : List Entry) (x : Entry) → HasFittingVerbs p → IsHistory p (x ∷ h) → IsOfDrain p h → next_of_drain p h ≡ Some x.event → IsLower (rank p (x ∷ h)) (rank p h) ⊎ IsHeldLook x.op
+DrainFalls = (p : Plan) (h : List Entry) (x : Entry) → HasFittingVerbs p → IsHistory p (x ∷ h) → IsOfDrain p h → next_of_drain p h ≡ Some x.event → IsLower (rank p (x ∷ h)) (rank p h)
