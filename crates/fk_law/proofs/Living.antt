@@ -19,7 +19,7 @@ use Rattle.fk_law.proofs.Losing.{IsOver, holds_each, ordered_has, missed_lock, s
 use Rattle.fk_law.proofs.Locking.{unsettled_unreleased}
 use Rattle.fk_law.proofs.Rising.{held_own}
 
-own_held : (n : ℕ) (h : List Entry) (g : Option Grant) → IsOwn n g → has_released n h ≡ false → is_held_by n h g ≡ true
+pub own_held : (n : ℕ) (h : List Entry) (g : Option Grant) → IsOwn n g → has_released n h ≡ false → is_held_by n h g ≡ true
 own_held n h None o r = absurd o
 own_held n h (Some g) o r = grind (arith, nat_tests)
 

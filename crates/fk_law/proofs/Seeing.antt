@@ -86,7 +86,7 @@ once_before q [] zs i = refl
 once_before q (p ∷ ps) zs i = by_test (same_path q p) (λ b. (b || has_path q ps) ≡ false) (λ e. absurd (false≢true (sym i.0 ∙ (ap (λ x. has_path x (ps ++ q ∷ zs)) (sym (same_path_is q p e)) ∙ has_between q ps zs)))) (λ _. once_before q ps zs i.1)
 
 -- the path that a follower locks next wasn't granted to it
-lock_is_new : (s seen : ℕ) (r : Request) (f : Follower) (path : PathNames) → StandsSo s seen r f (follower.Lock path) → has_path path (paths_of f.granted) ≡ false
+pub lock_is_new : (s seen : ℕ) (r : Request) (f : Follower) (path : PathNames) → StandsSo s seen r f (follower.Lock path) → has_path path (paths_of f.granted) ≡ false
 lock_is_new s seen r f path i =
     let b = in_order_of s seen r f (follower.Lock path) tt i in
     let w = first_left b.0 path (sym (left_over f.granted (lock_paths (view_of f.granted) f.owned r) b.0 b.1) ∙ i.1) in

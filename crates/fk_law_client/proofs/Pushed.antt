@@ -52,7 +52,7 @@ pub mark_pushed : MarkWasPushed
 mark_pushed p [] l = omega arith
 mark_pushed p (e ∷ h) l = mark_step p h e.op l.0 (due p e h l) (mark_pushed p h l.0)
 
-origin_up : (n k m : ℕ) (x o : Option Origin) → seen_from x ≤ m → seen_from o ≤ m → seen_from (origin_here n k x o) ≤ m
+pub origin_up : (n k m : ℕ) (x o : Option Origin) → seen_from x ≤ m → seen_from o ≤ m → seen_from (origin_here n k x o) ≤ m
 origin_up n k m None o a b = b
 origin_up n k m (Some y) o a b = cond_both (n + 1 == k) (Some y) o (λ z. seen_from z ≤ m) (λ _. a) (λ _. b)
 
@@ -60,7 +60,7 @@ when_up : (m : ℕ) (b : Bool) (y : Origin) → seen_from (Some y) ≤ m → see
 when_up m true y a = a
 when_up m false y a = omega arith
 
-sent_up : (c m : ℕ) (h : List Entry) (o : Op) → seen_by c h ≤ m → seen_from (sent_in c h o) ≤ m
+pub sent_up : (c m : ℕ) (h : List Entry) (o : Op) → seen_by c h ≤ m → seen_from (sent_in c h o) ≤ m
 sent_up c m h (op.Send s i k) a = when_up m (s == c) (start.Sent i (seen_by c h)) a
 sent_up c m h (op.Evict n k) a = when_up m (probes_session c (task_of n h)) start.Evicted (omega arith)
 sent_up c m h o a = omega arith
@@ -74,7 +74,7 @@ seen_with_pushed p c k (e ∷ h) v l =
 
 -- Last commits. ----------------------------------------------------------------------------------------
 
-filled_up : (path : PathNames) (t m : ℕ) (done : List Applied) (x : Option Pushed) → t ≤ m → last_editor path done ≤ m → last_editor path (with_filled done t x) ≤ m
+pub filled_up : (path : PathNames) (t m : ℕ) (done : List Applied) (x : Option Pushed) → t ≤ m → last_editor path done ≤ m → last_editor path (with_filled done t x) ≤ m
 filled_up path t m done None a b = b
 filled_up path t m done (Some y) a b = cond_both (has_path path (edited_paths (filled_after done t y))) t (last_editor path done) (λ z. z ≤ m) (λ _. a) (λ _. b)
 
@@ -98,13 +98,13 @@ last_pushed p c h l = by_number (last_of_session c h) refl
 
 -- Followers. -------------------------------------------------------------------------------------------
 
-abbrev AtUpTo : ℕ → follower.Stage → Type 0
+abbrev pub AtUpTo : ℕ → follower.Stage → Type 0
 AtUpTo m (follower.Refuse x at) = at ≤ m
 AtUpTo m (follower.Expire at) = at ≤ m
 AtUpTo m _ = Unit {0}
 
 -- the numbers that a follower knows are at most m
-abbrev KnowsUpTo : ℕ → Follower → Type 0
+abbrev pub KnowsUpTo : ℕ → Follower → Type 0
 KnowsUpTo m f = (f.last ≤ m) × (greatest_last f.granted ≤ m) × AtUpTo m f.stage
 
 at_more : (m n : ℕ) (s : follower.Stage) → m ≤ n → AtUpTo m s → AtUpTo n s
@@ -112,7 +112,7 @@ at_more m n (follower.Refuse x at) a i = omega (arith, a, i)
 at_more m n (follower.Expire at) a i = omega (arith, a, i)
 at_more m n s a i = tt
 
-knows_more : (m n : ℕ) (f : Follower) → m ≤ n → KnowsUpTo m f → KnowsUpTo n f
+pub knows_more : (m n : ℕ) (f : Follower) → m ≤ n → KnowsUpTo m f → KnowsUpTo n f
 knows_more m n f a i = let b = i.0 in let c = i.1 in (omega (arith, a, b), omega (arith, a, c), at_more m n f.stage a i.2)
 
 lock_up : (m seen : ℕ) (r : Request) (g : Follower) → seen ≤ m → g.last ≤ m → greatest_last g.granted ≤ m → KnowsUpTo m (to_lock seen r g)
@@ -133,7 +133,7 @@ greatest_up : (m : ℕ) (gs : List Granted) (g : Granted) → g.last ≤ m → g
 greatest_up m [] g a b = max_up g.last 0 m a b
 greatest_up m (x ∷ gs) g a b = max_up x.last (greatest_last (gs ++ g ∷ [])) m (omega (arith, b)) (greatest_up m gs g a (omega (arith, b)))
 
-moves_up : (p : Plan) (m : ℕ) (h : List Entry) (r : Request) (o : Op) (f : Follower) → seen_with f.session f.k h ≤ m → last_of_session f.session h ≤ m → ((path : PathNames) → last_edit p path h ≤ m) → KnowsUpTo m f → KnowsUpTo m (next_with p h r o f)
+pub moves_up : (p : Plan) (m : ℕ) (h : List Entry) (r : Request) (o : Op) (f : Follower) → seen_with f.session f.k h ≤ m → last_of_session f.session h ≤ m → ((path : PathNames) → last_edit p path h ≤ m) → KnowsUpTo m f → KnowsUpTo m (next_with p h r o f)
 moves_up p m h r (op.SessionNew n) f a b c i = begin_up m (seen_with f.session f.k h) r (record f { last = last_of_session f.session h }) a b i.1
 moves_up p m h r (op.SessionClosed n) f a b c i = (i.0, i.1, max_up (seen_with f.session f.k h) (last_of_session f.session h) m a b)
 moves_up p m h r (op.Owned n count) f a b c i = lock_up m (seen_with f.session f.k h) r (record f { owned = owned_after f.session (committed_of p h) }) a i.0 i.1
@@ -158,7 +158,7 @@ knows_pushed : (p : Plan) (n : ℕ) (h : List Entry) → ReadsAreReads p → IsH
 knows_pushed p n [] v l = tt
 knows_pushed p n (e ∷ h) v l = knows_step p n e h v l (knows_pushed p n h v l.0)
 
-refused_up : (m n place at : ℕ) (cd : Code) (h : List Entry) (s : follower.Stage) → Refuses n cd place at h s → AtUpTo m s → at ≤ m
+pub refused_up : (m n place at : ℕ) (cd : Code) (h : List Entry) (s : follower.Stage) → Refuses n cd place at h s → AtUpTo m s → at ≤ m
 refused_up m n place at cd h (follower.Refuse x a) r i = subst (λ z. z ≤ m) r.2 i
 refused_up m n place at cd h (follower.Expire a) r i = subst (λ z. z ≤ m) r.2 i
 refused_up m n place at cd h s r i = absurd r

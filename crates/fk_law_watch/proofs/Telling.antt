@@ -35,7 +35,7 @@ use Rattle.fk_law_watch.proofs.Epochs.{contains_is}
 -- Notes stand in order. --------------------------------------------------------------------------------
 
 -- a note of push t
-record IsNotedAt (p : Plan) (t : ℕ) (h : List Entry) : Type 0 where
+pub record IsNotedAt (p : Plan) (t : ℕ) (h : List Entry) : Type 0 where
   pub place : ℕ
   pub note : Note
   pub noted : note_of p place h ≡ Some note
@@ -60,7 +60,7 @@ noted_step p t e h (op.Notify n s k) q l i a = by_or (s == t) (is_noted t h) a (
     same x = grind (arith, nat_tests)
 noted_step p t e h o q l i a = noted_more p t e h l (i a)
 
-noted_at : (p : Plan) (t : ℕ) (h : List Entry) → IsHistory p h → is_noted t h ≡ true → IsNotedAt p t h
+pub noted_at : (p : Plan) (t : ℕ) (h : List Entry) → IsHistory p h → is_noted t h ≡ true → IsNotedAt p t h
 noted_at p t [] l a = absurd (false≢true a)
 noted_at p t (e ∷ h) l a = noted_step p t e h e.op refl l (noted_at p t h l.0) a
 

@@ -1,0 +1,16 @@
+pub mod Answering
+pub mod Awaiting
+pub mod Choosing
+pub mod ClientsFall
+pub mod Delivering
+pub mod Drained
+pub mod Draining
+pub mod Falling
+pub mod FunctionsFall
+pub mod Holding
+pub mod Looking
+pub mod Stepping
+pub mod StepsFall
+pub mod Summing
+pub mod Turning
+pub mod Unhindered

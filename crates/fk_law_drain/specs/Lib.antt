@@ -1,0 +1,6 @@
+pub mod Answering
+pub mod Delivering
+pub mod Drained
+pub mod Draining
+pub mod Falling
+pub mod Looking
