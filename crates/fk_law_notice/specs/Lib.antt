@@ -1,0 +1,4 @@
+pub mod Announcing
+pub mod Held
+pub mod Known
+pub mod Passing
