@@ -150,7 +150,7 @@ pub record StepKeeps (p : Plan) (c : ℕ) (h : List Entry) (o : Op) (P : List �
   pub reads : (i s : ℕ) → o ≡ op.Read c i s → P (client_of p c h).held (client_of p c h).closed (Some (read_by (sight_of p c h) (asked p c i) s))
   pub looks : (i m : ℕ) (r : Reading) → o ≡ op.LookOk c i m → (client_of p c h).reading ≡ Some r → P (client_of p c h).held (client_of p c h).closed (Some (record r { looked = true }))
 
-abbrev OnClient : (List ℕ → Bool → Option Reading → Type 0) → Client Sent → Type 0
+abbrev pub OnClient : (List ℕ → Bool → Option Reading → Type 0) → Client Sent → Type 0
 OnClient P x = P x.held x.closed x.reading
 
 settled_client : (P : List ℕ → Bool → Option Reading → Type 0) (k : ℕ) (o : Option Outcome) (x : Client Sent) → P x.held x.closed None → OnClient P (settle_with by_result k (settled_as o) x)
@@ -172,7 +172,7 @@ looked_client P r x false i j = i
 its : (c d : ℕ) → Some d ≡ Some c → d ≡ c
 its c d e = grind arith
 
-acted_keeps : (p : Plan) (c : ℕ) (h : List Entry) (o : Op) (P : List ℕ → Bool → Option Reading → Type 0) → client_in o ≡ Some c → StepKeeps p c h o P → OnClient P (acted_by (sight_of p c h) o (client_of p c h))
+pub acted_keeps : (p : Plan) (c : ℕ) (h : List Entry) (o : Op) (P : List ℕ → Bool → Option Reading → Type 0) → client_in o ≡ Some c → StepKeeps p c h o P → OnClient P (acted_by (sight_of p c h) o (client_of p c h))
 acted_keeps p c h (op.TakeDone d k t) P e s = s.unread refl
 acted_keeps p c h (op.TakeRefused d k) P e s = settled_client P k (kept_outcome (sight_of p c h).head) (client_of p c h) (s.unread refl)
 acted_keeps p c h (op.TakeLost d k) P e s = settled_client P k (kept_outcome (sight_of p c h).head) (client_of p c h) (s.unread refl)

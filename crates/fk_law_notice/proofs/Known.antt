@@ -106,7 +106,7 @@ has_some : (id : ℕ) (ws : List Watch) (w : Watch) → watch_with id ws ≡ Som
 has_some id ws w e = has_is id ws ∙ ap is_some e
 
 -- the watch that a path and a kind find is of them
-number_of : (c : ℕ) (path : PathNames) (k : Kind) (ws : List Watch) (id : ℕ) → AreUnique ws → set_number c path k ws ≡ Some id → (w : Watch) × (watch_with id ws ≡ Some w) × IsOf c path k w
+pub number_of : (c : ℕ) (path : PathNames) (k : Kind) (ws : List Watch) (id : ℕ) → AreUnique ws → set_number c path k ws ≡ Some id → (w : Watch) × (watch_with id ws ≡ Some w) × IsOf c path k w
 number_of c path k [] id u e = absurd (none_some id e)
   where
     none_some : (n : ℕ) → None ≡ Some n → ⊥

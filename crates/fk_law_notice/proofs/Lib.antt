@@ -2,3 +2,8 @@ pub mod Announcing
 pub mod Held
 pub mod Known
 pub mod Passing
+pub mod Closing
+pub mod Holding
+pub mod Showing
+pub mod Waiting
+pub mod Matching

@@ -2,3 +2,6 @@ pub mod Announcing
 pub mod Held
 pub mod Known
 pub mod Passing
+pub mod Closing
+pub mod Matching
+pub mod Waiting
