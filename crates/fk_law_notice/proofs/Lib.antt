@@ -7,3 +7,5 @@ pub mod Holding
 pub mod Showing
 pub mod Waiting
 pub mod Matching
+pub mod Firing
+pub mod Notices

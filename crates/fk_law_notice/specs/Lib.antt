@@ -5,3 +5,4 @@ pub mod Passing
 pub mod Closing
 pub mod Matching
 pub mod Waiting
+pub mod Notices
