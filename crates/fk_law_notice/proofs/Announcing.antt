@@ -1,6 +1,6 @@
 -- What a client's inbox holds of its watches, and what it was told.
 use Rattle.std.specs.Prelude.{◌==◌, ◌||◌, nat_lt, if◌then◌else◌, max}
-use Rattle.std.proofs.Common.{◌≡◌, ℕ, ◌+◌, ◌<◌, ◌≤◌, ◌⊎◌, inl, inr, Bool, true, false, List, [], ◌∷◌, ◌++◌, refl, sym, ◌∙◌, ap, subst, arith, Option, Some, None}
+use Rattle.std.proofs.Common.{◌≡◌, ℕ, ◌<◌, ◌≤◌, ◌⊎◌, inl, inr, Bool, true, false, List, [], ◌∷◌, ◌++◌, refl, sym, ◌∙◌, ap, subst, arith, Option, Some, None}
 use Rattle.std.proofs.lemmas.Bool.{false≢true}
 use Rattle.std.proofs.lemmas.Bool.Decides.{nat_tests}
 use Rattle.fk_print.specs.declared.entry.Entry.{Entry}
@@ -8,23 +8,23 @@ use Rattle.fk_print.specs.declared.line.Line.{Line}
 use Rattle.fk_print.specs.declared.line.Line.TheVariants as line
 use Rattle.fk_print.specs.declared.op.Op.{Op}
 use Rattle.fk_print.specs.declared.op.Op.TheVariants as op
-use Rattle.fk_spec.specs.Plan.{Plan, asked}
+use Rattle.fk_spec.specs.Plan.{Plan}
 use Rattle.fk_spec.specs.Shown.{number_or, shown_number}
 use Rattle.fk_spec.specs.Start.{Task, Follows, Leads, Notifies, Probes, request_of, task_of, when}
-use Rattle.fk_spec.specs.Settling.{Outcome, Passed, mark_of, outcome_of, swept_of}
+use Rattle.fk_spec.specs.Settling.{Outcome, Passed, outcome_of, swept_of}
 use Rattle.fk_spec.specs.Watches.{Firing, firing_of}
 use Rattle.fk_spec.specs.Lanes.{Message, Done, Evicted, Kept, Watch, Ping, inbox_after, inbox_of, is_evict, posted_in, reply_message, takes, with_posted, without_first}
-use Rattle.fk_spec.specs.Client.{client_in, client_of, contains, without, with_held, Reading}
+use Rattle.fk_spec.specs.Client.{client_in, client_of, contains}
 use Rattle.fk_spec.specs.PublicLines.{last_notice, lines_of, lines_onto, notice_in, seen_before}
 use Rattle.fk_spec.specs.Next.{IsHistory}
 use Rattle.fk_law.specs.Due.{IsDue}
-use Rattle.fk_law.specs.LeaderLane.{is_swept, sweeps}
+use Rattle.fk_law.specs.LeaderLane.{sweeps}
 use Rattle.fk_law.proofs.Due.{due}
 use Rattle.fk_law.proofs.Leading.{mark_behind_sweep}
 use Rattle.fk_law_watch.specs.FirstNumbers.{ReadsAreReads}
 use Rattle.fk_law_watch.specs.Telling.{announces, is_announced}
 use Rattle.fk_law_watch.proofs.Listing.{is_false}
-use Rattle.fk_law_watch.proofs.SetWatches.{by_or, firing_never_changes, fired_watch_fired_at_its_first_change, new_sweep_beyond}
+use Rattle.fk_law_watch.proofs.SetWatches.{by_or, firing_never_changes, fired_watch_fired_at_its_first_change, new_sweep_beyond, or_right}
 use Rattle.fk_law_watch.proofs.Telling.{announced_has_fired, announced_in_number_order, newly_fired}
 use Rattle.fk_law_client.specs.Inboxes.{AreTrueMessages, IsTrueMessage}
 use Rattle.fk_law_client.specs.Lines.{EachAfter, IsPublication, LineIs, LineIsAfter}
@@ -32,11 +32,11 @@ use Rattle.fk_law_client.proofs.Lines.{client_lines_are, other_lines_are}
 use Rattle.fk_law_client.proofs.Messages.{inbox_messages, none_some, same_number, some_same}
 use Rattle.fk_law_client.proofs.Seen.{max_up, seen_published}
 use Rattle.fk_law_client.proofs.Viewing.{seen_is}
-use Rattle.fk_law_notice.specs.Known.{IsWatch, HasFired}
+use Rattle.fk_law_notice.specs.Known.{HasFired}
 use Rattle.fk_law_notice.specs.Held.{IsOwn}
 use Rattle.fk_law_notice.specs.Announcing.{is_message, has_message, AnnouncedIsInTheInbox, comes_first, InboxAnnouncesInOrder, HeldFiresPastTheNotices}
 use Rattle.fk_law_notice.proofs.Known.{one_watch, set_not_fired, told_watch_is_its_clients}
-use Rattle.fk_law_notice.proofs.Held.{held_are_own, in_with, itself, left_in, moves_watch, not_set, or_left, or_right, registered_now, step_keeps, StepKeeps}
+use Rattle.fk_law_notice.proofs.Held.{held_are_own, in_with, itself, left_in, moves_watch, not_set, or_left, registered_now, step_keeps}
 
 -- Messages. --------------------------------------------------------------------------------------------
 

@@ -1,7 +1,7 @@
 -- Commands that close their session.
 use Rattle.std.specs.Prelude.{◌==◌, ◌&&◌, if◌then◌else◌}
 use Rattle.std.proofs.Common.{◌≡◌, ℕ, zero, suc, ◌+◌, ◌≤◌, Bool, true, false, List, [], ◌∷◌, refl, sym, ◌∙◌, ap, subst, arith, Option, Some, None}
-use Rattle.std.proofs.lemmas.Bool.{false≢true, cond_both}
+use Rattle.std.proofs.lemmas.Bool.{false≢true}
 use Rattle.std.proofs.lemmas.Bool.Decides.{nat_tests}
 use Rattle.fk_base.specs.Path.{PathNames, is_root}
 use Rattle.fk_base.specs.declared.code.Code.{Code}
@@ -25,8 +25,6 @@ use Rattle.fk_spec.specs.Locks.{loss_of}
 use Rattle.fk_spec.specs.Settling.{Outcome, Committed, Refused, Passed, outcome_here, outcome_of, session_of_push, settled_in, settled_of, settling}
 use Rattle.fk_spec.specs.Stored.{committed_of, up_to}
 use Rattle.fk_spec.specs.Client.{is_close_verb}
-use Rattle.fk_spec.specs.Follower.{Follower}
-use Rattle.fk_spec.specs.Function.{place_of}
 use Rattle.fk_spec.specs.Next.{IsHistory}
 use Rattle.fk_law.specs.Due.{IsDue}
 use Rattle.fk_law.proofs.Due.{due}
@@ -35,8 +33,8 @@ use Rattle.fk_law.proofs.Refusing.{refusal_holds_at_its_number}
 use Rattle.fk_law.proofs.Sending.{request_stays}
 use Rattle.fk_law.proofs.Settled.{settled_were_sent}
 use Rattle.fk_law.proofs.Starting.{follower_task}
-use Rattle.fk_law_client.proofs.Messages.{none_some, same_number, some_same}
-use Rattle.fk_law_notice.specs.Closing.{wants_close, ClosesAreCloses, DeploymentsCloseByCloses, RefusedCloseHasExpired}
+use Rattle.fk_law_client.proofs.Messages.{none_some, some_same}
+use Rattle.fk_law_notice.specs.Closing.{wants_close, DeploymentsCloseByCloses, RefusedCloseHasExpired}
 
 -- What deployments ask for. ----------------------------------------------------------------------------
 

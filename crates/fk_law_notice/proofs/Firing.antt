@@ -1,16 +1,13 @@
 -- How a watch fires by the transaction lines, which are the commits up to the mark.
-use Rattle.std.specs.Prelude.{◌==◌, nat_eq, nat_lt, if◌then◌else◌}
-use Rattle.std.proofs.Common.{◌≡◌, ℕ, zero, suc, ◌+◌, ◌<◌, ◌≤◌, Bool, true, false, List, [], ◌∷◌, ◌++◌, refl, sym, ◌∙◌, ap, subst, arith, Option, Some, None}
-use Rattle.std.proofs.lemmas.Bool.{false≢true}
+use Rattle.std.specs.Prelude.{nat_eq, nat_lt, if◌then◌else◌}
+use Rattle.std.proofs.Common.{◌≡◌, ℕ, zero, suc, ◌<◌, ◌≤◌, Bool, true, false, List, [], ◌∷◌, ◌++◌, refl, sym, ◌∙◌, ap, subst, arith, Option, Some, None}
 use Rattle.std.proofs.lemmas.Bool.Decides.{nat_tests}
 use Rattle.fk_tree.specs.Fill.{after_part, fill_made, fill_parts}
 use Rattle.fk_tree.specs.Touch.{once, parts_touches, part_touches, touches, touches_of}
 use Rattle.fk_tree.specs.View.{View}
 use Rattle.fk_tree.specs.Watch.{first_taken}
 use Rattle.fk_tree.specs.declared.applied.Applied.{Applied}
-use Rattle.fk_tree.specs.declared.applied.Made.{Made}
 use Rattle.fk_tree.specs.declared.change.Change.{Change}
-use Rattle.fk_tree.specs.declared.change.Touch.{Touch}
 use Rattle.fk_tree.specs.declared.request.Part.{Part}
 use Rattle.fk_tree.specs.declared.request.Part.TheVariants as part
 use Rattle.fk_tree.specs.declared.request.Request.{Request}

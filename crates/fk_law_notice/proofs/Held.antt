@@ -1,5 +1,5 @@
 -- The watches that a client holds.
-use Rattle.std.specs.Prelude.{◌==◌, ◌||◌, if◌then◌else◌, is_some}
+use Rattle.std.specs.Prelude.{◌==◌, ◌||◌, if◌then◌else◌}
 use Rattle.std.proofs.Common.{◌≡◌, ℕ, ◌+◌, ◌⊎◌, inl, inr, Bool, true, false, List, [], ◌∷◌, ◌++◌, refl, sym, ◌∙◌, ap, subst, arith, Option, Some, None}
 use Rattle.std.proofs.lemmas.Bool.{false≢true}
 use Rattle.std.proofs.lemmas.Bool.Decides.{nat_tests}
@@ -9,7 +9,7 @@ use Rattle.fk_print.specs.declared.op.Op.TheVariants as op
 use Rattle.fk_spec.specs.Plan.{Plan, asked, asks_in}
 use Rattle.fk_spec.specs.Start.{or_else}
 use Rattle.fk_spec.specs.Settling.{Outcome}
-use Rattle.fk_spec.specs.Watches.{Watch, Firing, firing_of, has_id, not_fired, set_after, set_watches, touches_of_push, watch_asked, with_watch}
+use Rattle.fk_spec.specs.Watches.{Watch, Firing, firing_of, has_id, set_after, set_watches, touches_of_push, with_watch}
 use Rattle.fk_spec.specs.Sight.{sight_of}
 use Rattle.fk_spec.specs.Lanes as lanes
 use Rattle.fk_spec.specs.Client.{acted_by, by_result, client_by, client_in, client_of, close_if, contains, flushed, is_close, kept_outcome, looked, looked_at, looked_for, read_by, registers, settle_with, settled_as, with_held, without, Client, Reading, Sent}
@@ -19,15 +19,15 @@ use Rattle.fk_law.proofs.Due.{due}
 use Rattle.fk_law_watch.specs.Registering.{IsRegistration, Registers}
 use Rattle.fk_law_watch.specs.SetWatches.{set_watch, watch_with}
 use Rattle.fk_law_watch.specs.Telling.{is_announced}
-use Rattle.fk_law_watch.proofs.Listing.{append_with, has_is, kept_watch, AreUnique}
+use Rattle.fk_law_watch.proofs.Listing.{append_with, kept_watch, AreUnique}
 use Rattle.fk_law_watch.proofs.Registering.{watches_are_registered}
-use Rattle.fk_law_watch.proofs.SetWatches.{watches_unique}
+use Rattle.fk_law_watch.proofs.SetWatches.{or_right, watches_unique}
 use Rattle.fk_law_watch.proofs.Telling.{announced_has_fired}
 use Rattle.fk_law_client.specs.Operations.{OperationSays, BeginsRead, WaitsToRegister}
 use Rattle.fk_law_client.proofs.Messages.{inbox_messages, none_some, same_number, some_same}
 use Rattle.fk_law_client.proofs.Operating.{client_operations_say}
 use Rattle.fk_law_client.proofs.Tracking.{first_true}
-use Rattle.fk_law_notice.specs.Known.{IsWatch, IsSet, HasFired}
+use Rattle.fk_law_notice.specs.Known.{IsSet}
 use Rattle.fk_law_notice.specs.Held.{ClosedHoldsNothing, IsOwn, HeldAreOwn, SetAreHeld}
 use Rattle.fk_law_notice.proofs.Known.{registered_watch, set_not_fired, watch_stays}
 
@@ -40,13 +40,6 @@ or_case false b e = inr e
 pub or_left : (a b : Bool) → a ≡ true → (a || b) ≡ true
 or_left true b e = refl
 or_left false b e = absurd (false≢true e)
-
-pub or_right : (a b : Bool) → b ≡ true → (a || b) ≡ true
-or_right true b e = refl
-or_right false b e = e
-
-same_is : (n m : ℕ) → (n == m) ≡ true → n ≡ m
-same_is n m e = grind (arith, nat_tests)
 
 pub itself : (n : ℕ) → (n == n) ≡ true
 itself n = grind (arith, nat_tests)
@@ -73,7 +66,7 @@ stays_in id j [] e n = e
 stays_in id j (x ∷ xs) e n = by_test (λ g. stays_in id j xs g n) (x == id) refl (or_case (x == j) (contains j xs) e)
   where
     clash : (x == id) ≡ true → (x == j) ≡ true → ⊥
-    clash f g = n (sym (same_is x j g) ∙ same_is x id f)
+    clash f g = n (sym (same_number x j g) ∙ same_number x id f)
 
     by_test : (contains j xs ≡ true → contains j (without id xs) ≡ true) → (b : Bool) → (x == id) ≡ b → ((x == j) ≡ true) ⊎ (contains j xs ≡ true) → contains j (if b then without id xs else x ∷ without id xs) ≡ true
     by_test i true f (inl g) = absurd (clash f g)
@@ -90,7 +83,7 @@ not_there id (x ∷ xs) e = by_test (λ f. not_there id xs f) (x == id) e
     by_test i false f = ap (λ ys. x ∷ ys) (i f)
 
 in_append : (id j : ℕ) (xs : List ℕ) → contains j (xs ++ id ∷ []) ≡ true → (contains j xs ≡ true) ⊎ (j ≡ id)
-in_append id j [] e = inr (sym (same_is id j (one (id == j) e)))
+in_append id j [] e = inr (sym (same_number id j (one (id == j) e)))
   where
     one : (b : Bool) → (b || false) ≡ true → b ≡ true
     one true e = refl
@@ -270,7 +263,7 @@ appended_set p d i k id h v w (Some u) r e f g a = inl (g ∙ a)
 appended_set p d i k id h v w None r e f g a = by_test (v.id == id) refl a
   where
     by_test : (b : Bool) → (v.id == id) ≡ b → (if b then Some v else None) ≡ Some w → WasSet p id h (op.WatchSet d i k) w
-    by_test true m n = inr (i, (let x : d ≡ w.session = sym f ∙ ap (λ z. z.session) (some_same v w n) in let y : k ≡ id = sym e ∙ same_is v.id id m in subst (λ z. op.WatchSet d i k ≡ op.WatchSet z i id) x (ap (op.WatchSet d i) y)))
+    by_test true m n = inr (i, (let x : d ≡ w.session = sym f ∙ ap (λ z. z.session) (some_same v w n) in let y : k ≡ id = sym e ∙ same_number v.id id m in subst (λ z. op.WatchSet d i k ≡ op.WatchSet z i id) x (ap (op.WatchSet d i) y)))
     by_test false m n = absurd (none_some w n)
 
 was_set : (p : Plan) (id : ℕ) (h : List Entry) (o : Op) (w : Watch) → AreUnique (set_watches p h) → Registers p h o → watch_with id (set_after p h o (set_watches p h)) ≡ Some w → WasSet p id h o w

@@ -1,6 +1,6 @@
 -- Which watch a number is of, from its registration on.
 use Rattle.std.specs.Prelude.{◌==◌, ◌&&◌, if◌then◌else◌, is_some}
-use Rattle.std.proofs.Common.{◌≡◌, ℕ, ◌+◌, ◌≤◌, ◌⊎◌, inl, inr, Bool, true, false, List, [], ◌∷◌, ◌++◌, refl, sym, ◌∙◌, ap, subst, arith, Option, Some, None}
+use Rattle.std.proofs.Common.{◌≡◌, ℕ, ◌+◌, ◌⊎◌, inl, inr, Bool, true, false, List, [], ◌∷◌, ◌++◌, refl, sym, ◌∙◌, ap, subst, arith, Option, Some, None}
 use Rattle.std.proofs.lemmas.Bool.{false≢true}
 use Rattle.std.proofs.lemmas.Bool.Decides.{nat_tests}
 use Rattle.fk_base.specs.Path.{PathNames, same_path}
@@ -19,23 +19,20 @@ use Rattle.fk_spec.specs.Watches.{Watch, Firing, fired_as, firing_in, firing_of,
 use Rattle.fk_spec.specs.Teller as teller
 use Rattle.fk_spec.specs.Teller.{Note, note_of, next_teller, to_tell}
 use Rattle.fk_spec.specs.Sight.{number_or_next}
-use Rattle.fk_spec.specs.Function.{Absent, Beating, Following, Leading, Place, Telling, actor, place_of}
+use Rattle.fk_spec.specs.Function.{Absent, Beating, Following, Leading, Place, Telling, place_of}
 use Rattle.fk_spec.specs.Next.{IsHistory}
-use Rattle.fk_law.specs.Due.{IsDue, Tells}
-use Rattle.fk_law.proofs.Due.{due}
+use Rattle.fk_law.specs.Due.{Tells}
 use Rattle.fk_law_watch.specs.Noting.{fired_at, fired_at_in}
 use Rattle.fk_law_watch.specs.Registering.{IsRegistration}
 use Rattle.fk_law_watch.specs.SetWatches.{IsOneOfTwo, set_watch, watch_with}
 use Rattle.fk_law_watch.proofs.Handing.{note_tells_what_its_push_fired}
-use Rattle.fk_law_watch.proofs.Listing.{AreUnique, append_with, fired_one, fires_none, fires_watch, has_is, its_number, stays_set}
-use Rattle.fk_law_watch.proofs.Noting.{OnTeller, fired_of_a_push, note_stays, teller_step}
+use Rattle.fk_law_watch.proofs.Listing.{AreUnique, append_with, fired_one, fires_none, fires_watch, has_is, stays_set}
+use Rattle.fk_law_watch.proofs.Noting.{OnTeller, fired_of_a_push, teller_step}
 use Rattle.fk_law_watch.proofs.SetWatches.{firing_never_changes, or_stays, set_or_fired_were_given, watch_is_set_or_fired, watches_unique}
+use Rattle.fk_law_client.proofs.Messages.{none_some, some_same}
 use Rattle.fk_law_notice.specs.Known.{IsWatch, IsSet, HasFired, ToldWatchIsItsClients}
 
 -- One watch for a number. ------------------------------------------------------------------------------
-
-some_same : {A : Type 0} → (x y : A) → Some x ≡ Some y → x ≡ y
-some_same x y e = cc
 
 -- a set watch hasn't fired
 pub set_not_fired : (p : Plan) (id : ℕ) (h : List Entry) (w : Watch) (f : Firing) → IsHistory p h → set_watch p id h ≡ Some w → firing_of p id h ≡ Some f → ⊥
@@ -108,9 +105,6 @@ has_some id ws w e = has_is id ws ∙ ap is_some e
 -- the watch that a path and a kind find is of them
 pub number_of : (c : ℕ) (path : PathNames) (k : Kind) (ws : List Watch) (id : ℕ) → AreUnique ws → set_number c path k ws ≡ Some id → (w : Watch) × (watch_with id ws ≡ Some w) × IsOf c path k w
 number_of c path k [] id u e = absurd (none_some id e)
-  where
-    none_some : (n : ℕ) → None ≡ Some n → ⊥
-    none_some n e = grind arith
 number_of c path k (w ∷ ws) id u e = by_test ((w.session == c) && same_path w.path path && same_kind w.kind k) refl e (λ a. number_of c path k ws id u.1 a)
   where
     itself : (n m : ℕ) (o : Option Watch) → Some n ≡ Some m → (if n == m then Some w else o) ≡ Some w
@@ -210,9 +204,6 @@ all_fired p h (f ∷ fs) i u = (i f.watch.id f (itself f.watch.id (firing_with f
 
         clash : (id : ℕ) (g : Firing) → f.watch.id ≡ id → firing_with id fs ≡ Some g → ⊥
         clash id g e a = none_some g (sym u.0 ∙ ap (λ n. firing_with n fs) e ∙ a)
-          where
-            none_some : (g : Firing) → None ≡ Some g → ⊥
-            none_some g e = grind arith
 
 push_fired : (p : Plan) (t : ℕ) (h : List Entry) → IsHistory p h → AllFired p h (fired_at p t h)
 push_fired p t h l = all_fired p h (fired_at p t h) (λ id g a. (fired_of_a_push p id t h g l a).0) (fired_at_once p t h l)

@@ -1,13 +1,12 @@
 -- A client's lines show what it holds.
 use Rattle.std.specs.Prelude.{◌==◌, ◌&&◌, if◌then◌else◌, max}
-use Rattle.std.proofs.Common.{◌≡◌, ℕ, ◌+◌, ◌<◌, ◌≤◌, ◌++◌, ◌⊎◌, inl, inr, Bool, true, false, List, [], ◌∷◌, refl, sym, ◌∙◌, ap, subst, arith, Option, Some, None}
+use Rattle.std.proofs.Common.{◌≡◌, ℕ, ◌+◌, ◌≤◌, ◌⊎◌, inl, inr, Bool, true, false, List, [], ◌∷◌, refl, sym, ◌∙◌, ap, subst, arith, Option, Some, None}
 use Rattle.std.proofs.lemmas.Bool.{false≢true}
 use Rattle.std.proofs.lemmas.Bool.Decides.{nat_tests}
 use Rattle.fk_base.specs.Path.{PathNames, same_path}
-use Rattle.fk_base.specs.declared.code.Code.{Code}
 use Rattle.fk_base.specs.declared.code.Code.TheVariants as code
 use Rattle.fk_tree.specs.Apply.{reply_of}
-use Rattle.fk_tree.specs.Ask.{answer_from, path_asked}
+use Rattle.fk_tree.specs.Ask.{path_asked}
 use Rattle.fk_tree.specs.Edit.{closes}
 use Rattle.fk_tree.specs.Watch.{first_taken, has_touch, kind_asked, same_kind, takes}
 use Rattle.fk_tree.specs.declared.applied.Applied.{Applied}
@@ -18,44 +17,37 @@ use Rattle.fk_tree.specs.declared.request.Request.{Request}
 use Rattle.fk_tree.specs.declared.request.Request.TheVariants as request
 use Rattle.fk_tree.proofs.Order.{same_path_self}
 use Rattle.fk_print.specs.declared.entry.Entry.{Entry}
-use Rattle.fk_print.specs.declared.line.Line.{Line}
-use Rattle.fk_print.specs.declared.line.Shown.{Shown}
 use Rattle.fk_print.specs.declared.line.Shown.TheVariants as shown
 use Rattle.fk_print.specs.declared.op.Op.{Op}
 use Rattle.fk_print.specs.declared.op.Op.TheVariants as op
-use Rattle.fk_spec.specs.Plan.{Plan, Ask, Want, Writes, Reads, asked, asks_in}
+use Rattle.fk_spec.specs.Plan.{Plan, Ask, Want, Unfit, Writes, Reads, asked, asks_in}
 use Rattle.fk_spec.specs.Shown.{seen_by}
-use Rattle.fk_spec.specs.Start.{or_else, origin_of, request_from, request_of, sends_of, when, written}
-use Rattle.fk_spec.specs.Start as start
-use Rattle.fk_spec.specs.Settling.{Committed, Refused, Passed, Outcome, outcome_of}
-use Rattle.fk_spec.specs.Stored.{committed_as}
+use Rattle.fk_spec.specs.Start.{or_else, request_from, request_in, request_of, sends_of, when, written}
+use Rattle.fk_spec.specs.Settling.{Committed, Refused, Passed, Outcome}
 use Rattle.fk_spec.specs.Watches.{Watch, Firing, firing_of, given_in, given_of, last_sweep, set_number, set_watches, touches_of_push, watch_asked, watch_wanted}
 use Rattle.fk_spec.specs.Sight.{number_or_next, sight_of}
 use Rattle.fk_spec.specs.Client.{acted_by, by_result, client_by, client_in, client_of, close_if, contains, flushed, is_close, kept_outcome, looked, looked_at, looked_for, number_looked_for, number_read, ready_first, registers, settle_with, settled_as, target_of, target_sent, target_with, with_held, without, Open, Settled, Plain, Expired, Client, Reading, Result, Sent, Target}
-use Rattle.fk_spec.specs.Replies.{client_lines, expired_lines, failed_line, first_line, looked_lines, notice_of, own_lines, read_line, read_lines, reply_lines, shown_applied, shown_asked, shown_reply, shown_result, wording}
+use Rattle.fk_spec.specs.Replies.{expired_lines, failed_line, first_line, looked_lines, notice_of, own_lines, read_line, read_lines, reply_lines, shown_applied, shown_asked, shown_reply, shown_result, wording}
 use Rattle.fk_spec.specs.PublicLines.{lines_of}
-use Rattle.fk_spec.specs.Holding.{Holding, ends_session, held_after, held_asked, held_by, held_with, not_held, with_holding}
+use Rattle.fk_spec.specs.Holding.{Holding, ends_session, held_asked, held_by, held_with, not_held, with_holding}
 use Rattle.fk_spec.specs.Next.{IsHistory}
 use Rattle.fk_law.proofs.Outcomes.{outcome_is_of_a_settled}
 use Rattle.fk_law.proofs.Publishing.{of_push}
-use Rattle.fk_law.proofs.Sending.{committed_is_filled, push_asks_for_its_request}
-use Rattle.fk_law.proofs.Settled.{reached}
+use Rattle.fk_law.proofs.Sending.{committed_is_filled, push_asks_for_its_request, request_was_sent, sent_has_a_request}
+use Rattle.fk_law.proofs.Settled.{settled_were_sent}
 use Rattle.fk_law.specs.LeaderLane.{sweeps}
 use Rattle.fk_law_watch.specs.FirstNumbers.{ReadsAreReads}
 use Rattle.fk_law_watch.specs.Registering.{number_from, number_of_read}
-use Rattle.fk_law_watch.specs.SetWatches.{first_of, registered_in, set_watch, taken_of}
+use Rattle.fk_law_watch.specs.SetWatches.{first_of, registered_in, set_watch}
 use Rattle.fk_law_watch.proofs.Reading.{next_is}
 use Rattle.fk_law_watch.proofs.SetWatches.{fired_watch_fired_at_its_first_change, set_watches_differ, watches_unique}
 use Rattle.fk_law_watch.proofs.Sweeps.{last_most}
-use Rattle.fk_law_client.specs.Lines.{IsAmong, kept_after}
-use Rattle.fk_law_client.specs.Operations.{OperationSays, LooksFor, WaitsToRegister, target_by}
+use Rattle.fk_law_client.specs.Operations.{OperationSays, LooksFor, WaitsToRegister}
 use Rattle.fk_law_client.specs.Tracking.{AreTracked, IsTrueResult, IsSentSo}
 use Rattle.fk_law_client.proofs.Lines.{lines_are}
 use Rattle.fk_law_client.proofs.Messages.{none_some, same_number, some_same}
 use Rattle.fk_law_client.proofs.Operating.{client_operations_say}
 use Rattle.fk_law_client.proofs.Tracking.{sent_tracked}
-use Rattle.fk_law_reply.specs.Ledger.{IsEntered}
-use Rattle.fk_law_reply.proofs.Ledger.{kept_commands_are_entered}
 use Rattle.fk_law_notice.specs.Known.{IsWatch, IsSet, HasFired}
 use Rattle.fk_law_notice.specs.Closing.{ClosesAreCloses, wants_close}
 use Rattle.fk_law_notice.specs.Matching.{AreTheSame, LinesShowWhatIsHeld}
@@ -95,57 +87,63 @@ close_ends p c k n h r Open l q f i e = absurd (none_some n e)
 close_ends p c k n h r (Plain cd) l q f i e = absurd (none_some n e)
 close_ends p c k n h r (Expired at) l q f i e = absurd (none_some n e)
 
--- what was looked for at a number was sent
-was_message : (p : Plan) (c k n : ℕ) (h : List Entry) (x : Result) → IsHistory p h → IsTrueResult p c k h x → number_looked_for x ≡ Some n → 1 ≤ k
-was_message p c k n h (Settled (Committed t)) l i e = (reached p i.function c k h l i.is_of.task).0
-was_message p c k n h (Settled (Refused cd place at)) l i e = (outcome_is_of_a_settled p c k h (Refused cd place at) l i).0
-was_message p c k n h (Settled (Passed loss)) l i e = absurd (none_some n e)
-was_message p c k n h Open l i e = absurd (none_some n e)
-was_message p c k n h (Plain cd) l i e = absurd (none_some n e)
-was_message p c k n h (Expired at) l i e = absurd (none_some n e)
+-- what was looked for at a number is of a request
+has_request : (p : Plan) (c k n : ℕ) (h : List Entry) (x : Result) → IsHistory p h → IsTrueResult p c k h x → number_looked_for x ≡ Some n → (r : Request) × (request_of p c k h ≡ Some r)
+has_request p c k n h (Settled (Committed t)) l i e = let w = push_asks_for_its_request p t i.function c k h l i.is_of in (w.0, w.1)
+has_request p c k n h (Settled (Refused cd place at)) l i e =
+    let a = outcome_is_of_a_settled p c k h (Refused cd place at) l i in
+    let b = settled_were_sent p c h l in
+    sent_has_a_request p c k h l a.0 (omega (arith, a.1, b))
+has_request p c k n h (Settled (Passed loss)) l i e = absurd (none_some n e)
+has_request p c k n h Open l i e = absurd (none_some n e)
+has_request p c k n h (Plain cd) l i e = absurd (none_some n e)
+has_request p c k n h (Expired at) l i e = absurd (none_some n e)
 
 sought_number : (i : ℕ) (o : Option ℕ) (t : Target) → target_with i o ≡ Some t → (n : ℕ) × (o ≡ Some n)
 sought_number i None t e = absurd (none_some t e)
 sought_number i (Some n) t e = (n, refl)
 
--- the first unanswered command, which is looked for: what it asks and what is known of it
-record IsFirst (p : Plan) (c n : ℕ) (h : List Entry) (s : Sent) : Type 0 where
+-- what asks for a request is a write
+record IsWrite (p : Plan) (c i : ℕ) (r : Request) : Type 0 where
   pub ask : Ask
-  pub is_asked : asked p c s.command ≡ Some ask
+  pub is_asked : asked p c i ≡ Some ask
+  pub writes : ask.want ≡ Writes r
+
+written_want : (w : Want) (r : Request) → request_in w ≡ Some r → w ≡ Writes r
+written_want (Writes q) r e = ap Writes (some_same q r e)
+written_want (Reads q watch) r e = absurd (none_some r e)
+written_want Unfit r e = absurd (none_some r e)
+
+is_write : (p : Plan) (c i : ℕ) (r : Request) (o : Option Ask) → asked p c i ≡ o → written o ≡ Some r → IsWrite p c i r
+is_write p c i r None f e = absurd (none_some r e)
+is_write p c i r (Some a) f e = record { ask = a; is_asked = f; writes = written_want a.want r e }
+
+-- the first unanswered command, which is looked for: what it asks and what is known of it
+record IsFirst (p : Plan) (c : ℕ) (h : List Entry) (s : Sent) : Type 0 where
   pub request : Request
-  pub writes : ask.want ≡ Writes request
   pub requested : request_of p c s.k h ≡ Some request
+  pub write : IsWrite p c s.command request
   pub true_result : IsTrueResult p c s.k h s.result
 
-first_is : (p : Plan) (c n : ℕ) (h : List Entry) (s : Sent) (ss : List Sent) → ReadsAreReads p → IsHistory p h → (client_of p c h).sent ≡ s ∷ ss → number_looked_for s.result ≡ Some n → IsFirst p c n h s
-first_is p c n h s ss v l q e = by_writes y.writes
+first_is : (p : Plan) (c n : ℕ) (h : List Entry) (s : Sent) (ss : List Sent) → ReadsAreReads p → IsHistory p h → (client_of p c h).sent ≡ s ∷ ss → number_looked_for s.result ≡ Some n → IsFirst p c h s
+first_is p c n h s ss v l q e = record { request = r.0; requested = r.1; write = by_sent tracked.1; true_result = tracked.2 }
   where
-    y : IsEntered p c (client_of p c h).begun h s
-    y = kept_commands_are_entered p c h s l (subst (IsAmong s) (sym q) (inl refl))
-
     tracked : (last : ℕ) × IsSentSo c last h s × IsTrueResult p c s.k h s.result
     tracked = let t = sent_tracked p c h v l in let u = subst (λ xs. AreTracked p c h t.answered t.last xs (client_of p c h).begun (sends_of c h)) q t.tracked in (t.last, u.1, u.2)
 
-    positive : 1 ≤ s.k
-    positive = was_message p c s.k n h s.result l tracked.2 e
+    r : (r : Request) × (request_of p c s.k h ≡ Some r)
+    r = has_request p c s.k n h s.result l tracked.2 e
 
-    from_origin : (a : Ask) (r : Request) → asked p c s.command ≡ Some a → a.want ≡ Writes r → (seen : ℕ) → origin_of c s.k h ≡ Some (start.Sent s.command seen) → request_of p c s.k h ≡ Some r
-    from_origin a r f g seen o = ap (request_from p c) o ∙ (ap written f ∙ subst (λ w. written (Some (record a { want = w })) ≡ Some r) (sym g) refl)
-
-    requested : (r : Request) → y.ask.want ≡ Writes r → IsSentSo c tracked.0 h s → request_of p c s.k h ≡ Some r
-    requested r f (inl z) = let b = positive in absurd (omega (arith, b, z))
-    requested r f (inr z) = from_origin y.ask r y.is_asked f z.1.seen z.1.origin
-
-    by_writes : (s.k ≡ 0) ⊎ ((r : Request) × (y.ask.want ≡ Writes r)) → IsFirst p c n h s
-    by_writes (inl z) = let b = positive in absurd (omega (arith, b, z))
-    by_writes (inr z) = record { ask = y.ask; is_asked = y.is_asked; request = z.0; writes = z.1; requested = requested z.0 z.1 tracked.1; true_result = tracked.2 }
+    by_sent : IsSentSo c tracked.0 h s → IsWrite p c s.command r.0
+    by_sent (inl z) = let b = (request_was_sent p c s.k h r.0 l r.1).0 in absurd (omega (arith, b, z))
+    by_sent (inr z) = is_write p c s.command r.0 (asked p c s.command) refl (sym (ap (request_from p c) z.1.origin) ∙ r.1)
 
 -- `H` are the entries with the operation's own
-first_same : (p : Plan) (c n : ℕ) (h H : List Entry) (s : Sent) (ids : List ℕ) (ws : List Holding) (x : Client Sent) → ClosesAreCloses p → IsHistory p h → IsFirst p c n h s → number_looked_for s.result ≡ Some n → AreTheSame p c H x.held ws → AreTheSame p c H (close_if (is_close (asked p c s.command)) x).held (held_asked (asked p c s.command) (shown_result p h s.result) ws)
+first_same : (p : Plan) (c n : ℕ) (h H : List Entry) (s : Sent) (ids : List ℕ) (ws : List Holding) (x : Client Sent) → ClosesAreCloses p → IsHistory p h → IsFirst p c h s → number_looked_for s.result ≡ Some n → AreTheSame p c H x.held ws → AreTheSame p c H (close_if (is_close (asked p c s.command)) x).held (held_asked (asked p c s.command) (shown_result p h s.result) ws)
 first_same p c n h H s ids ws x k l f e m =
-    subst (λ o. AreTheSame p c H (close_if (is_close o) x).held (held_asked o (shown_result p h s.result) ws)) (sym f.is_asked)
-    (subst (λ b. AreTheSame p c H (close_if b x).held (held_with f.ask.want (shown_result p h s.result) ws)) (sym (k c s.command f.ask f.is_asked ∙ ap wants_close f.writes))
-    (subst (λ w. AreTheSame p c H (close_if (closes f.request) x).held (held_with w (shown_result p h s.result) ws)) (sym f.writes)
+    subst (λ o. AreTheSame p c H (close_if (is_close o) x).held (held_asked o (shown_result p h s.result) ws)) (sym f.write.is_asked)
+    (subst (λ b. AreTheSame p c H (close_if b x).held (held_with f.write.ask.want (shown_result p h s.result) ws)) (sym (k c s.command f.write.ask f.write.is_asked ∙ ap wants_close f.write.writes))
+    (subst (λ w. AreTheSame p c H (close_if (closes f.request) x).held (held_with w (shown_result p h s.result) ws)) (sym f.write.writes)
     (by_close (closes f.request) (ends_session (shown_result p h s.result)) (λ g. close_ends p c s.k n h f.request s.result l f.requested g f.true_result e) refl)))
   where
     by_close : (b d : Bool) → (closes f.request ≡ true → d ≡ true) → closes f.request ≡ b → AreTheSame p c H (close_if b x).held (if b && d then [] else ws)

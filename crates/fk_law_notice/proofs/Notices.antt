@@ -1,6 +1,6 @@
 -- Clients are notified of the watches that they hold, and no answer passes one that has fired.
-use Rattle.std.specs.Prelude.{◌==◌, nat_le, if◌then◌else◌, max}
-use Rattle.std.proofs.Common.{◌≡◌, ℕ, ◌+◌, ◌<◌, ◌≤◌, ◌++◌, ◌⊎◌, inl, inr, Bool, true, false, List, [], ◌∷◌, refl, sym, ◌∙◌, ap, subst, arith, Option, Some, None}
+use Rattle.std.specs.Prelude.{nat_le, if◌then◌else◌}
+use Rattle.std.proofs.Common.{◌≡◌, ℕ, ◌+◌, ◌<◌, ◌≤◌, ◌++◌, Bool, true, false, List, [], ◌∷◌, refl, sym, ◌∙◌, ap, subst, arith, Option, Some, None}
 use Rattle.std.proofs.lemmas.Bool.{false≢true}
 use Rattle.std.proofs.lemmas.Bool.Decides.{nat_tests}
 use Rattle.fk_base.specs.declared.code.Code.{Code}
@@ -9,7 +9,6 @@ use Rattle.fk_tree.specs.Apply.{reply_of}
 use Rattle.fk_tree.specs.Ask.{answer_from}
 use Rattle.fk_tree.specs.Watch.{first_taken}
 use Rattle.fk_tree.specs.declared.applied.Applied.{Applied}
-use Rattle.fk_tree.specs.declared.change.Change.{Change}
 use Rattle.fk_tree.specs.declared.node.Node.{Node}
 use Rattle.fk_tree.specs.declared.reply.Answer.{Answer}
 use Rattle.fk_tree.specs.declared.reply.Answer.TheVariants as answer
@@ -27,25 +26,23 @@ use Rattle.fk_print.specs.declared.op.Op.TheVariants as op
 use Rattle.fk_spec.specs.Plan.{Plan, Ask, Want, Unfit, Writes, Reads, asked, asks_in}
 use Rattle.fk_spec.specs.Shown.{seen_by}
 use Rattle.fk_spec.specs.Locks.{Loss}
-use Rattle.fk_spec.specs.Settling.{Committed, Refused, Passed, is_committed, mark_of, swept_of}
-use Rattle.fk_spec.specs.Stored.{applied_as, committed_as, committed_of}
+use Rattle.fk_spec.specs.Settling.{Committed, Refused, Passed, mark_of}
+use Rattle.fk_spec.specs.Stored.{committed_as, committed_of}
 use Rattle.fk_spec.specs.Watches.{Watch, Firing, firing_of, touches_from, touches_of_push}
 use Rattle.fk_spec.specs.Sight.{sight_of}
 use Rattle.fk_spec.specs.Client.{acted_by, by_result, client_in, client_of, contains, is_ready, is_write, number_looked_for, number_read, ready_first, registers, Open, Settled, Plain, Expired, Client, Reading, Result, Sent}
-use Rattle.fk_spec.specs.Replies.{client_lines, expired_lines, first_line, looked_lines, notice_of, own_lines, read_line, read_lines, reply_lines, shown_answer, shown_applied, shown_asked, shown_loss, shown_read, shown_reply, shown_result, verb_asked, wording}
+use Rattle.fk_spec.specs.Replies.{expired_lines, first_line, looked_lines, notice_of, own_lines, read_line, read_lines, reply_lines, shown_answer, shown_applied, shown_asked, shown_loss, shown_read, shown_reply, shown_result, verb_asked, wording}
 use Rattle.fk_spec.specs.PublicLines.{Each, last_notice, lines_of, txs_among, txs_of}
 use Rattle.fk_spec.specs.Holding.{Holding, firing_among, held_at, held_by, is_beyond, passes_none}
 use Rattle.fk_spec.specs.Promises.{FiresAs, NoticeFits, PassesNone, WatchesKept, passes_to}
 use Rattle.fk_spec.specs.Next.{IsHistory}
 use Rattle.fk_law.specs.LeaderLane.{is_swept}
-use Rattle.fk_law.specs.Numbered.{numbered}
-use Rattle.fk_law.specs.Publishing.{all_printed}
 use Rattle.fk_law.proofs.Leading.{mark_behind_sweep, swept_up_to_the_sweep}
 use Rattle.fk_law.proofs.Numbered.{numbered_fit}
 use Rattle.fk_law.proofs.Printing.{txs_are_the_commits}
 use Rattle.fk_law.proofs.Sending.{was_committed}
 use Rattle.fk_law_watch.specs.FirstNumbers.{ReadsAreReads}
-use Rattle.fk_law_watch.specs.SetWatches.{FiredAtItsFirst, first_of, taken_of}
+use Rattle.fk_law_watch.specs.SetWatches.{FiredAtItsFirst, taken_of}
 use Rattle.fk_law_watch.specs.Telling.{is_announced}
 use Rattle.fk_law_watch.proofs.FirstNumbers.{fires_beyond_its_first}
 use Rattle.fk_law_watch.proofs.Reading.{ReadSo, next_is, reads_so}
@@ -55,7 +52,7 @@ use Rattle.fk_law_client.specs.Lines.{EachAfter, IsPublication}
 use Rattle.fk_law_client.specs.Operations.{OperationSays}
 use Rattle.fk_law_client.proofs.Acting.{ActsAs, HeadUpTo, IsUpTo, LooksSo, entry_acts}
 use Rattle.fk_law_client.proofs.Lines.{each_mapped, each_onto, lines_are, other_lines_are}
-use Rattle.fk_law_client.proofs.Messages.{none_some, some_same}
+use Rattle.fk_law_client.proofs.Messages.{some_same}
 use Rattle.fk_law_notice.specs.Known.{IsWatch, IsSet, HasFired}
 use Rattle.fk_law_notice.specs.Closing.{ClosesAreCloses}
 use Rattle.fk_law_notice.specs.Matching.{AreHeld, IsHoldingOf}

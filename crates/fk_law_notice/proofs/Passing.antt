@@ -1,6 +1,6 @@
 -- Looks and waiting reads pass no held watch that has fired.
-use Rattle.std.specs.Prelude.{◌==◌, ◌||◌, nat_le, if◌then◌else◌, max}
-use Rattle.std.proofs.Common.{◌≡◌, ℕ, ◌+◌, ◌<◌, ◌≤◌, ◌⊎◌, inl, inr, Bool, true, false, List, [], ◌∷◌, ◌++◌, refl, sym, ◌∙◌, ap, subst, arith, Option, Some, None}
+use Rattle.std.specs.Prelude.{◌==◌, ◌||◌, nat_le, if◌then◌else◌}
+use Rattle.std.proofs.Common.{◌≡◌, ℕ, ◌+◌, ◌<◌, ◌≤◌, inl, inr, Bool, true, false, List, [], ◌∷◌, ◌++◌, refl, sym, ◌∙◌, ap, subst, arith, Option, Some, None}
 use Rattle.std.proofs.lemmas.Bool.{false≢true}
 use Rattle.std.proofs.lemmas.Bool.Decides.{nat_tests}
 use Rattle.fk_print.specs.declared.entry.Entry.{Entry}
@@ -9,11 +9,10 @@ use Rattle.fk_print.specs.declared.op.Op.{Op}
 use Rattle.fk_print.specs.declared.op.Op.TheVariants as op
 use Rattle.fk_spec.specs.Plan.{Plan, asked, asks_in}
 use Rattle.fk_spec.specs.Shown.{seen_by, seen_lines}
-use Rattle.fk_spec.specs.Settling.{Outcome, mark_of, swept_of}
+use Rattle.fk_spec.specs.Settling.{Outcome, mark_of}
 use Rattle.fk_spec.specs.Watches.{Firing, firing_of, published_epoch}
 use Rattle.fk_spec.specs.Sight.{sight_of}
 use Rattle.fk_spec.specs.Client.{acted_by, by_result, client_by, client_in, client_of, close_if, contains, first_held, flushed, is_close, kept_outcome, looked_at, looked_for, number_read, read_by, ready_first, registers, settle_with, settled_as, Client, Reading, Sent}
-use Rattle.fk_spec.specs.Lanes.{inbox_of}
 use Rattle.fk_spec.specs.Replies.{client_lines, own_lines, read_line, reply_lines, wording}
 use Rattle.fk_spec.specs.Next.{IsHistory, next_lines}
 use Rattle.fk_law.specs.LeaderLane.{sweeps}
@@ -33,7 +32,7 @@ use Rattle.fk_law_reply.proofs.Finding.{reads_show_the_tree}
 use Rattle.fk_law_notice.specs.Announcing.{has_message}
 use Rattle.fk_law_notice.specs.Passing.{OkLookPassesNoWatch, WaitingReadPassesNoWatch}
 use Rattle.fk_law_notice.proofs.Announcing.{announced_is_in_the_inbox, new_firing_beyond, was_fired}
-use Rattle.fk_law_notice.proofs.Held.{says_as, step_keeps, StepKeeps}
+use Rattle.fk_law_notice.proofs.Held.{says_as, step_keeps}
 
 -- Ok looks. --------------------------------------------------------------------------------------------
 

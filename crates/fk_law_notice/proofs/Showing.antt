@@ -1,6 +1,6 @@
 -- What each line makes of the watches that its client's lines show as held.
-use Rattle.std.specs.Prelude.{◌==◌, ◌&&◌, if◌then◌else◌, is_some}
-use Rattle.std.proofs.Common.{◌≡◌, ℕ, ◌+◌, ◌≤◌, ◌⊎◌, inl, inr, Bool, true, false, List, [], ◌∷◌, ◌++◌, refl, sym, ◌∙◌, ap, subst, arith, Option, Some, None}
+use Rattle.std.specs.Prelude.{◌==◌, ◌&&◌, if◌then◌else◌}
+use Rattle.std.proofs.Common.{◌≡◌, ℕ, inl, inr, Bool, true, false, List, [], ◌∷◌, ◌++◌, refl, sym, ◌∙◌, ap, subst, arith, Option, Some, None}
 use Rattle.std.proofs.lemmas.Bool.{false≢true}
 use Rattle.fk_base.specs.declared.code.Code.{Code}
 use Rattle.fk_base.specs.declared.code.Code.TheVariants as code
@@ -10,7 +10,6 @@ use Rattle.fk_tree.specs.Watch.{kind_asked}
 use Rattle.fk_tree.specs.declared.node.Node.{Node}
 use Rattle.fk_tree.specs.declared.request.Query.{Query}
 use Rattle.fk_tree.specs.declared.request.Query.TheVariants as query
-use Rattle.fk_tree.specs.declared.request.Request.{Request}
 use Rattle.fk_print.specs.declared.entry.Entry.{Entry}
 use Rattle.fk_print.specs.declared.line.Line.{Line}
 use Rattle.fk_print.specs.declared.line.Line.TheVariants as line
@@ -28,7 +27,7 @@ use Rattle.fk_spec.specs.Next.{IsHistory}
 use Rattle.fk_law_watch.specs.FirstNumbers.{ReadsAreReads}
 use Rattle.fk_law_client.specs.Lines.{EachAfter, IsAmong, IsPublication, LineIs, LineIsAfter}
 use Rattle.fk_law_client.proofs.Lines.{client_lines_are, other_lines_are}
-use Rattle.fk_law_client.proofs.Messages.{same_number, some_same}
+use Rattle.fk_law_client.proofs.Messages.{same_number}
 use Rattle.fk_law_notice.proofs.Held.{itself}
 
 -- Lines one after another. -----------------------------------------------------------------------------

@@ -1,5 +1,4 @@
 -- Reads that wait for their registration, and what a client knows of a closed session.
-use Rattle.std.specs.Prelude.{◌==◌, if◌then◌else◌}
 use Rattle.std.proofs.Common.{◌≡◌, ℕ, ◌+◌, ◌⊎◌, inl, inr, Bool, true, false, List, [], ◌∷◌, refl, sym, ◌∙◌, ap, subst, arith, Option, Some, None}
 use Rattle.std.proofs.lemmas.Bool.{false≢true}
 use Rattle.fk_base.specs.declared.code.Code.TheVariants as code
@@ -10,16 +9,16 @@ use Rattle.fk_spec.specs.Plan.{Plan, Unfit, asked, asks_in}
 use Rattle.fk_spec.specs.Shown.{seen_by}
 use Rattle.fk_spec.specs.Settling.{Outcome}
 use Rattle.fk_spec.specs.Sight.{sight_of}
-use Rattle.fk_spec.specs.Client.{acted_by, by_result, client_by, client_in, client_of, close_if, flushed, is_close, is_unfit, kept_outcome, local_result, looked, looked_at, looked_for, read_by, registers, settle_with, settled_as, Client, Expired, Plain, Settled, Reading, Sent, Result}
+use Rattle.fk_spec.specs.Client.{acted_by, by_result, client_in, client_of, close_if, is_close, is_unfit, kept_outcome, local_result, looked, looked_at, looked_for, read_by, registers, settle_with, settled_as, Client, Expired, Plain, Settled, Reading, Sent}
 use Rattle.fk_spec.specs.Next.{IsHistory}
 use Rattle.fk_law_client.specs.Operations.{OperationSays, Begins}
 use Rattle.fk_law_client.specs.Lines.{IsAmong, kept_after}
-use Rattle.fk_law_client.specs.Kept.{KeptFrom, Before, Told, Begun, WasTold, begun_by}
+use Rattle.fk_law_client.specs.Kept.{KeptFrom, Before, Told, Begun, begun_by}
 use Rattle.fk_law_client.proofs.Kept.{among_unready, client_after, kept_commands_have_their_source}
 use Rattle.fk_law_client.proofs.Messages.{none_some, some_same}
 use Rattle.fk_law_client.proofs.Operating.{client_operations_say}
 use Rattle.fk_law_notice.specs.Waiting.{WaitingReadsRegister}
-use Rattle.fk_law_notice.proofs.Held.{acted_keeps, itself, step_keeps, StepKeeps}
+use Rattle.fk_law_notice.proofs.Held.{acted_keeps}
 
 -- Waiting reads. ---------------------------------------------------------------------------------------
 

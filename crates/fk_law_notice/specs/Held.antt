@@ -1,12 +1,10 @@
 -- The watches that a client holds.
-use Rattle.std.specs.Prelude.{◌≡◌, ℕ, ◌<◌, true, false, List, [], Some, None}
+use Rattle.std.specs.Prelude.{◌≡◌, ℕ, true, false, List, [], Some, None}
 use Rattle.fk_print.specs.declared.entry.Entry.{Entry}
 use Rattle.fk_spec.specs.Plan.{Plan}
-use Rattle.fk_spec.specs.Shown.{seen_by}
-use Rattle.fk_spec.specs.Watches.{Watch, Firing, firing_of}
-use Rattle.fk_spec.specs.Client.{client_of, contains, number_read, Reading}
+use Rattle.fk_spec.specs.Watches.{Watch}
+use Rattle.fk_spec.specs.Client.{client_of, contains}
 use Rattle.fk_spec.specs.Next.{IsHistory}
-use Rattle.fk_law_watch.specs.FirstNumbers.{ReadsAreReads}
 use Rattle.fk_law_watch.specs.SetWatches.{set_watch}
 use Rattle.fk_law_notice.specs.Known.{IsWatch}
 
