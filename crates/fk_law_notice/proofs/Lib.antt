@@ -1,0 +1,11 @@
+pub mod Announcing
+pub mod Held
+pub mod Known
+pub mod Passing
+pub mod Closing
+pub mod Holding
+pub mod Showing
+pub mod Waiting
+pub mod Matching
+pub mod Firing
+pub mod Notices
