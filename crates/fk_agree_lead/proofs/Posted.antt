@@ -73,7 +73,7 @@ replied_elsewhere p n c k h (lane.Inbox d) e = record {
 }
 
 -- an eviction is one in the message and in the rules
-evicts_the_same : (r : Request) → is_evict (Some r) ≡ lead.is_evict r
+pub evicts_the_same : (r : Request) → is_evict (Some r) ≡ lead.is_evict r
 evicts_the_same (request.Close evict) = refl
 evicts_the_same r = refl
 
