@@ -20,8 +20,8 @@ const PATH_LIMIT: usize = 512;
 /// The same for a sequential create, whose ten digits come behind.
 const NUMBERED_LIMIT: usize = 502;
 
-/// What a command wants: nothing that can be asked, a change of the tree, or an answer from it, with
-/// a watch or without.
+/// What a command wants: nothing that can be asked, a change of the tree, or an answer from it,
+/// with a watch or without.
 #[derive(Drop)]
 pub enum Want {
     Unfit,

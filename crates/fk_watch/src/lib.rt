@@ -1,5 +1,6 @@
-//! The table of watches: which are set, which have fired and aren't told, and the last sweep of each
-//! path; and two functions: one tells clients which of their watches fired, one pings their sessions.
+//! The table of watches: which are set, which have fired and aren't told, and the last sweep of
+//! each path; and two functions: one tells clients which of their watches fired, one pings their
+//! sessions.
 //! What these mean and what each call does stands in `specs/`.
 #![tactic(auto)]
 

@@ -26,7 +26,8 @@ use std::marker::Model;
 
 /// The watches: how many numbers were given, which are set, which have fired and aren't told, what
 /// was swept, and the last sweep of each path. A call that may fail answers `Failed` exactly where
-/// the table is armed; it then changes nothing else, raises the count of faults and calms the table.
+/// the table is armed; it then changes nothing else, raises the count of faults and calms the
+/// table.
 #[derive(Drop)]
 pub struct WatchTable {
     alloc: Global,
