@@ -6,7 +6,6 @@ use Rattle.std.proofs.lemmas.Bool.Decides.{nat_tests}
 use Rattle.fk_base.specs.Path.{PathNames, same_path}
 use Rattle.fk_tree.specs.declared.applied.Applied.{Applied}
 use Rattle.fk_print.specs.declared.entry.Entry.{Entry}
-use Rattle.fk_print.specs.declared.line.Printed.{Printed}
 use Rattle.fk_print.specs.declared.op.Op.{Op}
 use Rattle.fk_print.specs.declared.op.Op.TheVariants as op
 use Rattle.fk_spec.specs.Plan.{Plan}
@@ -78,10 +77,6 @@ for_it c k b e = grind (arith, nat_tests)
 
 it_is : (c k : ℕ) (b : Applied) → b.session ≡ c → b.k ≡ k → is_tx_for c k (printed_of b) ≡ true
 it_is c k b e f = grind (arith, nat_tests)
-
-printed_option : Option Applied → Option Printed
-printed_option None = None
-printed_option (Some a) = Some (printed_of a)
 
 none_step : (p : Plan) (h : List Entry) (c k m : ℕ) (x : Option Applied) → committed_as p (suc m) h ≡ x → ((b : Applied) → x ≡ Some b → b.session ≡ c → b.k ≡ k → ⊥) → tx_for c k (all_printed (numbered m (committed_of p h))) ≡ None → tx_for c k (all_printed (with_some x (numbered m (committed_of p h)))) ≡ None
 none_step p h c k m None e f i = i

@@ -66,9 +66,6 @@ taken_touches path k (t ∷ ts) x e = by_path (same_path t.path path) e (taken_t
 kind_flipped : (a b : Kind) → same_kind a b ≡ true → same_kind b a ≡ true
 kind_flipped a b e = grind arith
 
-kind_through : (a b c : Kind) → same_kind a b ≡ true → same_kind a c ≡ true → same_kind b c ≡ true
-kind_through a b c e f = grind arith
-
 path_through : (a b c : PathNames) → same_path a b ≡ true → same_path a c ≡ true → same_path b c ≡ true
 path_through a b c e f = subst (λ z. same_path z c ≡ true) (same_path_is a b e) f
 

@@ -122,13 +122,6 @@ pub record IsRegistered (p : Plan) (c id : ℕ) (path : PathNames) (k : Kind) (h
 kind_itself : (k : Kind) → same_kind k k ≡ true
 kind_itself k = grind arith
 
-has_some : (id : ℕ) (ws : List Watch) → has_id id ws ≡ true → (v : Watch) × (watch_with id ws ≡ Some v)
-has_some id ws e = by_with (watch_with id ws) refl (sym (has_is id ws) ∙ e)
-  where
-    by_with : (o : Option Watch) → watch_with id ws ≡ o → is_some o ≡ true → (v : Watch) × (watch_with id ws ≡ Some v)
-    by_with None f g = absurd (false≢true g)
-    by_with (Some v) f g = (v, f)
-
 has_none : (id : ℕ) (ws : List Watch) → has_id id ws ≡ false → watch_with id ws ≡ None
 has_none id ws e = by_with (watch_with id ws) refl (sym (has_is id ws) ∙ e)
   where

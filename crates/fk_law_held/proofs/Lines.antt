@@ -259,8 +259,8 @@ sought_sent p c n k h (Settled (Passed loss)) l t q = absurd (none_some n q)
 sought_sent p c n k h (Plain cd) l t q = absurd (none_some n q)
 sought_sent p c n k h (Expired at) l t q = absurd (none_some n q)
 
-close_reply : (a : Applied) (r : Request) → a.request ≡ request.Close false → ends_session (shown_reply a.tx (reply_of a)) ≡ true
-close_reply a r e = subst (λ z. ends_session (shown_reply a.tx (reply_of (record a { request = z }))) ≡ true) (sym e) refl
+close_reply : (a : Applied) → a.request ≡ request.Close false → ends_session (shown_reply a.tx (reply_of a)) ≡ true
+close_reply a e = subst (λ z. ends_session (shown_reply a.tx (reply_of (record a { request = z }))) ≡ true) (sym e) refl
 
 -- a close is refused as its session is closed
 refused_code : (v : View) (c place : ℕ) (cd : Code) → check v c (request.Close false) ≡ Some (record { code = cd; place = place }) → cd ≡ code.SessionExpired
@@ -278,7 +278,7 @@ close_ends p c n k h Open v l t q f = absurd (none_some n q)
 close_ends p c n k h (Settled (Committed u)) v l t q f =
     let a = committed_is_filled p u h l t.committed in
     let y = applied_is p u t.function c k h a.0 (request.Close false) l t.is_of a.1 f in
-    subst (λ o. ends_session (shown_applied u o) ≡ true) (sym a.1) (subst (λ z. ends_session (shown_reply z (reply_of a.0)) ≡ true) a.2 (close_reply a.0 (request.Close false) y.2))
+    subst (λ o. ends_session (shown_applied u o) ≡ true) (sym a.1) (subst (λ z. ends_session (shown_reply z (reply_of a.0)) ≡ true) a.2 (close_reply a.0 y.2))
 close_ends p c n k h (Settled (Refused cd place at)) v l t q f = subst (λ z. ends_session (shown.Refused z at place) ≡ true) (sym (refused_code (view_after (up_to at (committed_of p h))) c place cd (refused_holds_at_its_number p c k place at cd h (request.Close false) v.reads l t f))) refl
 close_ends p c n k h (Settled (Passed loss)) v l t q f = absurd (none_some n q)
 close_ends p c n k h (Plain cd) v l t q f = absurd (none_some n q)

@@ -83,9 +83,6 @@ pub none_held : (p : Plan) (h : List Entry) (held : List ℕ) (ws : List Holding
 none_held p h held [] e m = refl
 none_held p h held (w ∷ ws) e m = let y = m.back w (inl refl) in absurd (false≢true (subst (λ z. contains y.id z ≡ true) e y.holds))
 
-pub matches_empty : (p : Plan) (h : List Entry) (held : List ℕ) (ws : List Holding) → held ≡ [] → Matches p h held ws → Matches p h [] ws
-matches_empty p h held ws e m = subst (λ z. Matches p h z ws) e m
-
 abbrev AllAccounted : Plan → ℕ → List Entry → List ℕ → Type 0
 AllAccounted p c h held = (id : ℕ) → contains id held ≡ true → IsAccountedFor p c id h
 
