@@ -282,7 +282,7 @@ kept_told : (p : Plan) (c k d j : ℕ) (e : Entry) (h : List Entry) (w : Outcome
 kept_told p c k d j e h w ms v l a t q i f =
     told_taken p c k e h (Kept j w) ms t q (another_told p c j k h w v l a (subst (λ z. awaits_outcome k (settle_with by_result j (settled_as (kept_outcome (first_message z))) (client_of p c h)).sent ≡ true) q i)) f
 
-takes_now : (c d : ℕ) (e : Entry) (o : Op) → e.op ≡ o → d ≡ c → takes c o ≡ (d == c) → takes c e.op ≡ true
+pub takes_now : (c d : ℕ) (e : Entry) (o : Op) → e.op ≡ o → d ≡ c → takes c o ≡ (d == c) → takes c e.op ≡ true
 takes_now c d e o q f t = ap (takes c) q ∙ (t ∙ equal f)
   where
     equal : d ≡ c → (d == c) ≡ true

@@ -35,6 +35,7 @@ use Rattle.fk_law_reply.specs.Plans.{HasFittingVerbs}
 use Rattle.fk_law_reply.specs.Reads.{IsMadeRead}
 use Rattle.fk_law_reply.proofs.Finding.{reads_show_the_tree}
 use Rattle.fk_law_drain.specs.Falling.{client_weight, outcomes_of, read_left}
+use Rattle.fk_law_drain.proofs.Awaiting.{takes_now}
 use Rattle.fk_law_drain.proofs.Holding.{no_look_is_held}
 use Rattle.fk_law_drain.proofs.Looking.{committed_is_published, looked_for_is_published}
 use Rattle.fk_law_drain.proofs.Turning.{IsTurnOf}
@@ -172,17 +173,11 @@ inbox_less p c e h m ms t q = ap (λ b. length (inbox_after b (inbox_of p c h) (
     one_more : (n : ℕ) → n + 1 ≡ suc n
     one_more n = omega arith
 
-taking : (c d : ℕ) (e : Entry) (o : Op) → e.op ≡ o → d ≡ c → takes c o ≡ (d == c) → takes c e.op ≡ true
-taking c d e o q f t = ap (takes c) q ∙ (t ∙ equal f)
-  where
-    equal : d ≡ c → (d == c) ≡ true
-    equal f = grind (arith, nat_tests)
-
 -- a turn that takes a message
 takes_less : (p : Plan) (c d : ℕ) (e : Entry) (h : List Entry) (m : Message) (ms : List Message) (o : Op) → NoSend o → e.op ≡ o → client_in o ≡ Some c → d ≡ c → takes c o ≡ (d == c) → inbox_of p d h ≡ m ∷ ms → (acted_by (sight_of p c h) o (client_of p c h)).begun ≡ (client_of p c h).begun → (acted_by (sight_of p c h) o (client_of p c h)).reading ≡ None → length (acted_by (sight_of p c h) o (client_of p c h)).owed ≤ length (client_of p c h).owed + 1 → outcomes_of (acted_by (sight_of p c h) o (client_of p c h)).sent ≤ outcomes_of (client_of p c h).sent + 1 → TurnFalls p c e h
 takes_less p c d e h m ms o k q f g t b n r w s =
     has_less p c e h o k q f n
-    (let i = inbox_less p c e h m ms (taking c d e o q g t) (subst (λ z. inbox_of p z h ≡ m ∷ ms) g b) in
+    (let i = inbox_less p c e h m ms (takes_now c d e o q g t) (subst (λ z. inbox_of p z h ≡ m ∷ ms) g b) in
     let y = read_low p c h (client_of p c h).reading in
     subst (λ z. 40 * length (inbox_of p c (e ∷ h)) + 20 * length (acted_by (sight_of p c h) o (client_of p c h)).owed + 8 * outcomes_of (acted_by (sight_of p c h) o (client_of p c h)).sent + read_left p c (e ∷ h) z < client_weight p h c) (sym r) (omega (arith, i, y, w, s)))
 

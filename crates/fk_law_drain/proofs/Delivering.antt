@@ -27,6 +27,7 @@ use Rattle.fk_law.specs.Progress.{Progress, Asks, progress, progress_after}
 use Rattle.fk_law.specs.Progress as progress_so
 use Rattle.fk_law.specs.Settled.{IsCommittedPush}
 use Rattle.fk_law.proofs.Committing.{committed_push, its_push_is_one, its_push_stays}
+use Rattle.fk_law.proofs.Deciding.{same_follower}
 use Rattle.fk_law.proofs.Due.{due}
 use Rattle.fk_law.proofs.Leading.{commits_are_beyond_the_sweep, done_is_removed_or_one_more, leader_at_or_below_the_head, leader_stands_where_it_may}
 use Rattle.fk_law.proofs.Moving.{OnFollower, OnLeader, follower_step, leader_step}
@@ -210,18 +211,12 @@ committed_now p n m t e h f l q g b = its x
 replying_request : (p : Plan) (n m c k : ℕ) (h : List Entry) (f : Follower) → m ≡ n → place_of p n h ≡ Following f → due_so.Replies c k h (place_of p m h) → (c ≡ f.session) × (k ≡ f.k)
 replying_request p n m c k h f g b d = let x = subst (due_so.Replies c k h) (ap (λ z. place_of p z h) g ∙ b) d in (sym x.1, sym x.2)
 
--- the follower of a line that is due
-its_follower : (p : Plan) (n m : ℕ) (h : List Entry) (f g : Follower) → m ≡ n → place_of p n h ≡ Following f → place_of p m h ≡ Following g → g ≡ f
-its_follower p n m h f g e b d = grind arith
-
 follower_moves : (p : Plan) (n : ℕ) (e : Entry) (h : List Entry) (o : Op) (f : Follower) → HasFittingVerbs p → IsHistory p (e ∷ h) → IsDelivered p h → ((t : ℕ) → is_committed t (e ∷ h) ≡ true → t ≤ done_of (e ∷ h) → IsPushReplied p t (e ∷ h)) → e.op ≡ o → IsDue p h o → place_of p n h ≡ Following f → actor o ≡ Some n → IsGiven f.session f.k h → EndsSo p (e ∷ h) f.session f.k (progress_after o (progress f.stage))
 follower_moves p n e h (op.SessionApplied m) f v l i done q d b a g r =
-    let x : m ≡ n = grind arith in
-    let y = its_follower p n m h f d.0 x b d.1 in
+    let y = same_follower p h m n d.0 f d.1 a b in
     seen_to_stays p f.session f.k e h v l done g (applied_seen_to p f.session f.k h l.0 i (outcome_of f.session f.k h) refl (subst (λ z. IsApplied (outcome_of z.session z.k h)) y d.4))
 follower_moves p n e h (op.SessionPast m) f v l i done q d b a g r =
-    let x : m ≡ n = grind arith in
-    let y = its_follower p n m h f d.0 x b d.1 in
+    let y = same_follower p h m n d.0 f d.1 a b in
     seen_to_stays p f.session f.k e h v l done g (i.removed f.session f.k g.0 (past_removed p n f.session f.k h l.0 (follower_task p n h f l.0 b) (subst (λ z. settled_of z.session h + 1 ≡ z.k → ⊥) y d.3) (subst (λ z. settled_of z.session h ≡ z.k → ⊥) y d.4)))
 follower_moves p n e h (op.CommitOk m t) f v l i done q d b a g r =
     let x : m ≡ n = grind arith in

@@ -298,7 +298,7 @@ pub drains_are_calm : DrainsAreCalm
 drains_are_calm p _ l (Begins g h r) = begins_calm p (in_flight p g) (clock_of g + p.lock + 1) g h r l (will_begin p g (plays_history p (drain_begin p g) g h r l))
 drains_are_calm p _ l (Goes h x d e) = calm_step p x h x.event l (drains_are_calm p h l.0 d) refl (drain_chooses p h x.event e)
 
-absent_is : (x : Place) → is_absent x ≡ true → x ≡ Absent
+pub absent_is : (x : Place) → is_absent x ≡ true → x ≡ Absent
 absent_is Absent e = refl
 absent_is (Following f) e = absurd (false≢true e)
 absent_is (Leading t s) e = absurd (false≢true e)

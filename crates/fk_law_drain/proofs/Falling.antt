@@ -1,7 +1,6 @@
 -- Each event of a drain lowers a rank.
 use Rattle.std.specs.Prelude.{◌==◌, ◌-◌, if◌then◌else◌}
 use Rattle.std.proofs.Common.{◌≡◌, ℕ, ◌+◌, ◌≤◌, inl, Bool, true, false, List, [], ◌∷◌, length, refl, sym, ◌∙◌, ap, subst, arith, Option, Some, None}
-use Rattle.std.proofs.lemmas.Bool.{false≢true}
 use Rattle.std.proofs.lemmas.Bool.Decides.{nat_tests}
 use Rattle.fk_print.specs.declared.entry.Entry.{Entry}
 use Rattle.fk_print.specs.declared.event.Event.{Event}
@@ -18,7 +17,7 @@ use Rattle.fk_spec.specs.Leader as leader
 use Rattle.fk_spec.specs.Teller.{Note, note_in, note_of}
 use Rattle.fk_spec.specs.Watches.{swept_by}
 use Rattle.fk_spec.specs.Client.{client_in}
-use Rattle.fk_spec.specs.Function.{Place, Absent, Following, Leading, Telling, Beating, in_flight, is_absent, place_of, placed, telling}
+use Rattle.fk_spec.specs.Function.{Place, Absent, Following, Leading, in_flight, place_of, placed, telling}
 use Rattle.fk_spec.specs.Next.{IsHistory, names_client}
 use Rattle.fk_law.specs.Due.{IsDue}
 use Rattle.fk_law.proofs.Due.{due}
@@ -29,7 +28,7 @@ use Rattle.fk_law_drain.specs.Draining.{IsCalm, WorksOnTheHead}
 use Rattle.fk_law_drain.specs.Falling.{DrainFalls, IsLower, client_sum, client_weight, commands_left, rank, requests_left}
 use Rattle.fk_law_drain.proofs.Choosing.{Chooses, Delivers, Leads, Steps, Tells, Turns, drain_chooses, none_stands}
 use Rattle.fk_law_drain.proofs.ClientsFall.{BeginsMore, HasLess, NoSend, TurnFalls, other_client, turn_falls, weight_other}
-use Rattle.fk_law_drain.proofs.Draining.{IsIdleOp, StartsIt, client_acts, drains_are_calm, follower_starts, leader_starts, op_at, started_place, steps_on, teller_starts, turns_own, unmoved}
+use Rattle.fk_law_drain.proofs.Draining.{absent_is, IsIdleOp, StartsIt, client_acts, drains_are_calm, follower_starts, leader_starts, op_at, started_place, steps_on, teller_starts, turns_own, unmoved}
 use Rattle.fk_law_drain.proofs.Stepping.{not_removed, same_starts}
 use Rattle.fk_law_drain.proofs.Summing.{sum_falls, sum_same}
 use Rattle.fk_law_drain.proofs.Turning.{IsTurnOf, client_turn}
@@ -83,13 +82,6 @@ note_there p w (e ∷ h) l a b = by_op (λ c. note_there p w h l.0 a c) e.op ref
     by_op : (w ≤ notes_of h → (x : Note) × (note_of p w h ≡ Some x)) → (o : Op) → e.op ≡ o → IsDue p h o → w ≤ notes_of (e ∷ h) → (x : Note) × (note_of p w (e ∷ h) ≡ Some x)
     by_op i (op.Notify n t k) q d b = subst (λ o. (x : Note) × (or_else (note_in p w h o) (note_of p w h) ≡ Some x)) (sym q) (now n t k (k == w) refl d.1 (subst (λ o. w ≤ note_count o (notes_of h)) q b) i)
     by_op i o q d b = subst (λ o. (x : Note) × (or_else (note_in p w h o) (note_of p w h) ≡ Some x)) (sym q) (old (note_in p w h o) (i (subst (λ o. w ≤ note_count o (notes_of h)) q b)))
-
-absent_is : (x : Place) → is_absent x ≡ true → x ≡ Absent
-absent_is Absent e = refl
-absent_is (Following f) e = absurd (false≢true e)
-absent_is (Leading t s) e = absurd (false≢true e)
-absent_is (Telling w t s) e = absurd (false≢true e)
-absent_is (Beating c s) e = absurd (false≢true e)
 
 head_given : (given removed k : ℕ) → head_among given removed ≡ Some k → (1 ≤ k) × (k ≤ given)
 head_given given removed k e = (grind (arith, nat_tests), grind (arith, nat_tests))

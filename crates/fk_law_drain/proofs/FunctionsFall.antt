@@ -29,6 +29,7 @@ use Rattle.fk_spec.specs.Watches.{Firing, swept_by}
 use Rattle.fk_spec.specs.Function.{Following, Leading, Telling, actor, place_of}
 use Rattle.fk_law.specs.Due.{IsDue, Refuses}
 use Rattle.fk_law.specs.Due as due_so
+use Rattle.fk_law.proofs.Deciding.{same_follower}
 use Rattle.fk_law_drain.specs.Draining.{IsUnhindered}
 use Rattle.fk_law_drain.specs.Falling.{follower_class, leader_class, lock_bound, puts_left, teller_class, tells_left}
 use Rattle.fk_law_drain.proofs.Stepping.{NotAck}
@@ -104,11 +105,8 @@ granted_falls p h seen r f path e = by_path (item_after (lock_paths (view_of g.g
         less : (m n b : ℕ) → m ≡ n + 1 → m < b → b - m < b - n
         less m n b e l = omega (arith, e, l)
 
-same_follower : (p : Plan) (n m : ℕ) (h : List Entry) (f g : Follower) → m ≡ n → place_of p n h ≡ Following f → place_of p m h ≡ Following g → g ≡ f
-same_follower p n m h f g e b d = grind arith
-
-at_stage : (p : Plan) (n m : ℕ) (h : List Entry) (f g : Follower) (s : follower.Stage) → m ≡ n → place_of p n h ≡ Following f → place_of p m h ≡ Following g → g.stage ≡ s → f.stage ≡ s
-at_stage p n m h f g s e b d q = subst (λ z. z.stage ≡ s) (same_follower p n m h f g e b d) q
+at_stage : (p : Plan) (n m : ℕ) (h : List Entry) (f g : Follower) (s : follower.Stage) → Some m ≡ Some n → place_of p n h ≡ Following f → place_of p m h ≡ Following g → g.stage ≡ s → f.stage ≡ s
+at_stage p n m h f g s e b d q = subst (λ z. z.stage ≡ s) (same_follower p h m n g f d e b) q
 
 falls_to : (r : Request) (f g : Follower) (s : follower.Stage) → f.stage ≡ s → (1 ≤ follower_class g.stage) × (follower_class g.stage < follower_class s) → FollowerFalls r f g
 falls_to r f g s e l = (l.0, inl (subst (λ z. follower_class g.stage < follower_class z) (sym e) l.1))
@@ -120,15 +118,15 @@ refuses_class n place at cd h s i = absurd i
 
 -- each step of a follower that isn't hindered and isn't its last brings it nearer to its end
 pub follower_falls : (p : Plan) (n : ℕ) (h : List Entry) (r : Request) (f : Follower) (o : Op) → IsDue p h o → place_of p n h ≡ Following f → actor o ≡ Some n → IsUnhindered (Following f) o → NotAck o → FollowerFalls r f (next_with p h r o f)
-follower_falls p n h r f (op.SessionNew m) d b a u k = falls_to r f (next_with p h r (op.SessionNew m) f) follower.Session (at_stage p n m h f d.0 follower.Session (grind arith) b d.1 d.2) (let c = begin_class (seen_with f.session f.k h) r (record f { last = last_of_session f.session h }) in let x = c.0 in let y = c.1 in (omega (arith, x), omega (arith, y)))
-follower_falls p n h r f (op.SessionClosed m) d b a u k = falls_to r f (next_with p h r (op.SessionClosed m) f) follower.Session (at_stage p n m h f d.0 follower.Session (grind arith) b d.1 d.2) (omega arith, omega arith)
-follower_falls p n h r f (op.SessionApplied m) d b a u k = falls_to r f (next_with p h r (op.SessionApplied m) f) follower.Session (at_stage p n m h f d.0 follower.Session (grind arith) b d.1 d.2) (omega arith, omega arith)
-follower_falls p n h r f (op.SessionRefused m) d b a u k = falls_to r f (next_with p h r (op.SessionRefused m) f) follower.Session (at_stage p n m h f d.0 follower.Session (grind arith) b d.1 d.2) (omega arith, omega arith)
-follower_falls p n h r f (op.SessionPast m) d b a u k = falls_to r f (next_with p h r (op.SessionPast m) f) follower.Session (at_stage p n m h f d.0 follower.Session (grind arith) b d.1 d.2) (omega arith, omega arith)
-follower_falls p n h r f (op.Owned m count) d b a u k = falls_to r f (next_with p h r (op.Owned m count) f) follower.Owned (at_stage p n m h f d.0 follower.Owned (grind arith) b d.1 d.2) (let c = lock_class (seen_with f.session f.k h) r (record f { owned = owned_after f.session (committed_of p h) }) in let x = c.0 in let y = c.1 in (omega (arith, x), omega (arith, y)))
-follower_falls p n h r f (op.LockOk m path) d b a u k = granted_falls p h (seen_with f.session f.k h) r f path (at_stage p n m h f d.0 (follower.Lock path) (grind arith) b d.1 d.2)
-follower_falls p n h r f (op.Push m t) d b a u k = falls_to r f (next_with p h r (op.Push m t) f) follower.Push (at_stage p n m h f d.0 follower.Push (grind arith) b d.1 d.2) (omega arith, omega arith)
-follower_falls p n h r f (op.RefuseOk m cd place at) d b a u k = (omega arith, inl (refuses_class m place at cd h f.stage (subst (λ z. Refuses m cd place at h z.stage) (same_follower p n m h f d.0 (grind arith) b d.1) d.3)))
+follower_falls p n h r f (op.SessionNew m) d b a u k = falls_to r f (next_with p h r (op.SessionNew m) f) follower.Session (at_stage p n m h f d.0 follower.Session a b d.1 d.2) (let c = begin_class (seen_with f.session f.k h) r (record f { last = last_of_session f.session h }) in let x = c.0 in let y = c.1 in (omega (arith, x), omega (arith, y)))
+follower_falls p n h r f (op.SessionClosed m) d b a u k = falls_to r f (next_with p h r (op.SessionClosed m) f) follower.Session (at_stage p n m h f d.0 follower.Session a b d.1 d.2) (omega arith, omega arith)
+follower_falls p n h r f (op.SessionApplied m) d b a u k = falls_to r f (next_with p h r (op.SessionApplied m) f) follower.Session (at_stage p n m h f d.0 follower.Session a b d.1 d.2) (omega arith, omega arith)
+follower_falls p n h r f (op.SessionRefused m) d b a u k = falls_to r f (next_with p h r (op.SessionRefused m) f) follower.Session (at_stage p n m h f d.0 follower.Session a b d.1 d.2) (omega arith, omega arith)
+follower_falls p n h r f (op.SessionPast m) d b a u k = falls_to r f (next_with p h r (op.SessionPast m) f) follower.Session (at_stage p n m h f d.0 follower.Session a b d.1 d.2) (omega arith, omega arith)
+follower_falls p n h r f (op.Owned m count) d b a u k = falls_to r f (next_with p h r (op.Owned m count) f) follower.Owned (at_stage p n m h f d.0 follower.Owned a b d.1 d.2) (let c = lock_class (seen_with f.session f.k h) r (record f { owned = owned_after f.session (committed_of p h) }) in let x = c.0 in let y = c.1 in (omega (arith, x), omega (arith, y)))
+follower_falls p n h r f (op.LockOk m path) d b a u k = granted_falls p h (seen_with f.session f.k h) r f path (at_stage p n m h f d.0 (follower.Lock path) a b d.1 d.2)
+follower_falls p n h r f (op.Push m t) d b a u k = falls_to r f (next_with p h r (op.Push m t) f) follower.Push (at_stage p n m h f d.0 follower.Push a b d.1 d.2) (omega arith, omega arith)
+follower_falls p n h r f (op.RefuseOk m cd place at) d b a u k = (omega arith, inl (refuses_class m place at cd h f.stage (subst (λ z. Refuses m cd place at h z.stage) (same_follower p h m n d.0 f d.1 a b) d.3)))
 follower_falls p n h r f (op.CommitOk m t) d b a u k = falls_to r f (next_with p h r (op.CommitOk m t) f) (follower.Commit t) (its (subst (due_so.Commits m t d.0 d.1 d.2 h) (ap (λ z. place_of p z h) (same a) ∙ b) d.3)) (omega arith, omega arith)
   where
     same : Some m ≡ Some n → m ≡ n

@@ -5,6 +5,7 @@ pub mod ClientsFall
 pub mod Delivering
 pub mod Drained
 pub mod Draining
+pub mod Ending
 pub mod Falling
 pub mod FunctionsFall
 pub mod Holding

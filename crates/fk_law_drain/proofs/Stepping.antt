@@ -25,6 +25,7 @@ use Rattle.fk_spec.specs.Next.{IsHistory}
 use Rattle.fk_law.specs.Due.{Acks, Commits, IsDue, Replies}
 use Rattle.fk_law.specs.Losing.{IsOwn}
 use Rattle.fk_law.specs.Progress.{Ends, progress, progress_after}
+use Rattle.fk_law.proofs.Deciding.{same_follower}
 use Rattle.fk_law.proofs.Due.{due}
 use Rattle.fk_law.proofs.Growing.{numbers_never_fall}
 use Rattle.fk_law.proofs.Losing.{has_last, same_sym}
@@ -88,16 +89,12 @@ pub not_removed : (w : Option Task → Bool) (h : List Entry) (o : Op) (r : ℕ)
 not_removed w h (op.AckOk n) r i = absurd i
 not_removed w h o r i = refl
 
--- the same follower, in the line that is due
-same_follower : (p : Plan) (n m : ℕ) (h : List Entry) (f g : Follower) → m ≡ n → place_of p n h ≡ Following f → place_of p m h ≡ Following g → g ≡ f
-same_follower p n m h f g e b d = grind arith
-
 settles_next : (p : Plan) (n : ℕ) (h : List Entry) (f : Follower) (o : Op) → IsDue p h o → place_of p n h ≡ Following f → actor o ≡ Some n → IsUnhindered (Following f) o → SettlesNext (settled_of f.session h) f.k (progress f.stage) → SettlesNext (count_settling f.session (settled_in h o) (settled_of f.session h)) f.k (progress_after o (progress f.stage))
-settles_next p n h f (op.SessionNew m) d b a u i = let y = same_follower p n m h f d.0 (grind arith) b d.1 in subst (λ z. settled_of z.session h + 1 ≡ z.k) y d.3
-settles_next p n h f (op.SessionClosed m) d b a u i = let y = same_follower p n m h f d.0 (grind arith) b d.1 in subst (λ z. settled_of z.session h + 1 ≡ z.k) y d.3
-settles_next p n h f (op.Owned m count) d b a u i = let y = same_follower p n m h f d.0 (grind arith) b d.1 in subst (λ z. SettlesNext (settled_of f.session h) f.k (progress z)) (subst (λ z. z.stage ≡ follower.Owned) y d.2) i
-settles_next p n h f (op.LockOk m path) d b a u i = let y = same_follower p n m h f d.0 (grind arith) b d.1 in subst (λ z. SettlesNext (settled_of f.session h) f.k (progress z)) (subst (λ z. z.stage ≡ follower.Lock path) y d.2) i
-settles_next p n h f (op.Push m t) d b a u i = let y = same_follower p n m h f d.0 (grind arith) b d.1 in subst (λ z. SettlesNext (settled_of f.session h) f.k (progress z)) (subst (λ z. z.stage ≡ follower.Push) y d.2) i
+settles_next p n h f (op.SessionNew m) d b a u i = let y = same_follower p h m n d.0 f d.1 a b in subst (λ z. settled_of z.session h + 1 ≡ z.k) y d.3
+settles_next p n h f (op.SessionClosed m) d b a u i = let y = same_follower p h m n d.0 f d.1 a b in subst (λ z. settled_of z.session h + 1 ≡ z.k) y d.3
+settles_next p n h f (op.Owned m count) d b a u i = let y = same_follower p h m n d.0 f d.1 a b in subst (λ z. SettlesNext (settled_of f.session h) f.k (progress z)) (subst (λ z. z.stage ≡ follower.Owned) y d.2) i
+settles_next p n h f (op.LockOk m path) d b a u i = let y = same_follower p h m n d.0 f d.1 a b in subst (λ z. SettlesNext (settled_of f.session h) f.k (progress z)) (subst (λ z. z.stage ≡ follower.Lock path) y d.2) i
+settles_next p n h f (op.Push m t) d b a u i = let y = same_follower p h m n d.0 f d.1 a b in subst (λ z. SettlesNext (settled_of f.session h) f.k (progress z)) (subst (λ z. z.stage ≡ follower.Push) y d.2) i
 settles_next p n h f (op.LockBusy m path holder moment) d b a u i = absurd u
 settles_next p n h f (op.CommitLock m t path holder moment) d b a u i = absurd u
 settles_next p n h f (op.RefuseLock m cd place at path holder moment) d b a u i = absurd u
@@ -199,19 +196,19 @@ holds_on p n h f (op.CommitOk m t) l d b a u i = inr (at_commit p t n h f l b (i
 
     its : Commits m t d.0 d.1 d.2 h (Following f) → f.stage ≡ follower.Commit t
     its c = c.0
-holds_on p n h f (op.SessionClosed m) l d b a u i = absurd (asks (same_follower p n m h f d.0 (grind arith) b d.1))
+holds_on p n h f (op.SessionClosed m) l d b a u i = absurd (asks (same_follower p h m n d.0 f d.1 a b))
   where
     asks : d.0 ≡ f → ⊥
     asks y = subst (λ z. HoldsLocks (progress z)) (subst (λ z. z.stage ≡ follower.Session) y d.2) i
-holds_on p n h f (op.SessionApplied m) l d b a u i = absurd (asks (same_follower p n m h f d.0 (grind arith) b d.1))
+holds_on p n h f (op.SessionApplied m) l d b a u i = absurd (asks (same_follower p h m n d.0 f d.1 a b))
   where
     asks : d.0 ≡ f → ⊥
     asks y = subst (λ z. HoldsLocks (progress z)) (subst (λ z. z.stage ≡ follower.Session) y d.2) i
-holds_on p n h f (op.SessionRefused m) l d b a u i = absurd (asks (same_follower p n m h f d.0 (grind arith) b d.1))
+holds_on p n h f (op.SessionRefused m) l d b a u i = absurd (asks (same_follower p h m n d.0 f d.1 a b))
   where
     asks : d.0 ≡ f → ⊥
     asks y = subst (λ z. HoldsLocks (progress z)) (subst (λ z. z.stage ≡ follower.Session) y d.2) i
-holds_on p n h f (op.SessionPast m) l d b a u i = absurd (asks (same_follower p n m h f d.0 (grind arith) b d.1))
+holds_on p n h f (op.SessionPast m) l d b a u i = absurd (asks (same_follower p h m n d.0 f d.1 a b))
   where
     asks : d.0 ≡ f → ⊥
     asks y = subst (λ z. HoldsLocks (progress z)) (subst (λ z. z.stage ≡ follower.Session) y d.2) i
