@@ -130,11 +130,11 @@ after_place p n g m leader.Ack s e f w a = inl (record { inv = e; going = refl; 
 after_place p n g m leader.Ended s e f w a = inr (record { is_so = refl; absent = a })
 
 -- the operation of function n
-abbrev IsOf : ℕ → Op → Type 0
+abbrev pub IsOf : ℕ → Op → Type 0
 IsOf n o = actor o ≡ Some n
 
 -- each operation that it may make is its own
-all_of : (m : Meaning) (x : Stage) → is_end x ≡ false → May (IsOf m.inv) m x
+pub all_of : (m : Meaning) (x : Stage) → is_end x ≡ false → May (IsOf m.inv) m x
 all_of m leader.Commit e = (refl, (λ a. refl), (λ path a b. refl))
 all_of m leader.Pending e = (refl, refl)
 all_of m leader.Drop e = (refl, (λ a. refl))

@@ -111,6 +111,10 @@ fault_or_it : (b : Bool) (n : ℕ) (x : Stage) (o : Op) → IsOf n o → IsOf n 
 fault_or_it true n x o i = refl
 fault_or_it false n x o i = i
 
+-- its operation is its own
+pub beat_acts : (t : table.Meaning) (q : post.Meaning) (now beat : ℕ) (m : Meaning) → is_ended m ≡ false → actor (step_op t q now beat m) ≡ Some m.inv
+beat_acts t q now beat m e = fault_or_it (is_armed t q m.stage) m.inv m.stage (calm_op t q now beat m m.stage) (of_it t q now beat m m.stage e)
+
 after_place : (p : Plan) (n : ℕ) (g : List Entry) (m : Meaning) (x : Stage) → m.inv ≡ n → place_of p n g ≡ beat_on m.session x → IsBeat p n g (going_to x m) ⊎ HasEnded p n g (is_ended (going_to x m))
 after_place p n g m heartbeat.Probe e a = inl (record { inv = e; going = refl; stands = a })
 after_place p n g m heartbeat.Ping e a = inl (record { inv = e; going = refl; stands = a })
@@ -122,7 +126,7 @@ pub beat_goes_on : BeatGoesOn
 beat_goes_on p n now beat e h m t q i g = after_place p n (e ∷ h) m (next_beat (step_op t q now beat m)) i.inv (own_operation_moves_it p n e h its ∙ (ap (moved p h e.op) i.stands ∙ ap (λ o. beat_on m.session (next_beat o)) g))
   where
     its : actor e.op ≡ Some n
-    its = ap actor g ∙ (fault_or_it (is_armed t q m.stage) m.inv m.stage (calm_op t q now beat m m.stage) (of_it t q now beat m m.stage i.going) ∙ ap Some i.inv)
+    its = ap actor g ∙ (beat_acts t q now beat m i.going ∙ ap Some i.inv)
 
 pub others_leave_beats : OthersLeaveBeats
 others_leave_beats p n e h m l i other = record { inv = i.inv; going = i.going; stands = others_leave_it p n e h l (ap is_absent i.stands) other ∙ i.stands }

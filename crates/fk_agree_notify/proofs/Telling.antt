@@ -91,6 +91,10 @@ actor_stage q w m teller.Ack e = by_test q.armed (λ b. actor (or_fault b m.inv 
     by_head false = refl
 actor_stage q w m teller.Ended e = absurd (false≢true (sym e))
 
+-- its operation is its own
+pub teller_acts : (q : post.Meaning) (w : watches.Watches) (m : Meaning) → is_ended m ≡ false → actor (step_op q w m) ≡ Some m.inv
+teller_acts q w m e = actor_stage q w m m.stage e
+
 after_place : (p : Plan) (n : ℕ) (g : List Entry) (m : Meaning) (x : Stage) → m.inv ≡ n → place_of p n g ≡ tell_on m.number m.tx x → IsTeller p n g (going_to x m) ⊎ HasEnded p n g (is_ended (going_to x m))
 after_place p n g m (teller.Tell f fs) e a = inl (record { inv = e; going = refl; stands = a })
 after_place p n g m teller.Told e a = inl (record { inv = e; going = refl; stands = a })
@@ -101,7 +105,7 @@ pub teller_goes_on : TellerGoesOn
 teller_goes_on p n e h m q w i g = after_place p n (e ∷ h) m (next_teller (step_op q w m) m.stage) i.inv (own_operation_moves_it p n e h its ∙ (ap (moved p h e.op) i.stands ∙ ap (λ o. tell_on m.number m.tx (next_teller o m.stage)) g))
   where
     its : actor e.op ≡ Some n
-    its = ap actor g ∙ (actor_stage q w m m.stage i.going ∙ ap Some i.inv)
+    its = ap actor g ∙ (teller_acts q w m i.going ∙ ap Some i.inv)
 
 pub others_leave_tellers : OthersLeaveTellers
 others_leave_tellers p n e h m l i other = record { inv = i.inv; going = i.going; stands = others_leave_it p n e h l (ap is_absent i.stands) other ∙ i.stands }
