@@ -1,7 +1,11 @@
--- A read is told by its command.
+-- What a read shows, and whether it sets a watch, is told by its command alone, since its path is one.
 use Rattle.std.proofs.Common.{◌≡◌, ℕ, Bool, true, false, cond, List, [], ◌∷◌, Option, Some, None, refl, arith}
-use Rattle.std.specs.Prelude.{is_some}
+use Rattle.std.specs.Prelude.{◌&&◌, is_some}
 use Rattle.fk_base.specs.Path.{PathNames}
+use Rattle.fk_base.specs.declared.code.Code.TheVariants as code
+use Rattle.fk_print.specs.declared.line.Shown.{Shown}
+use Rattle.fk_print.specs.declared.line.Shown.TheVariants as shown
+use Rattle.fk_tree.specs.Tree.{stat_of}
 use Rattle.fk_tree.specs.declared.node.Node.{Node}
 use Rattle.fk_tree.specs.declared.request.Part.{Part}
 use Rattle.fk_tree.specs.declared.request.Query.TheVariants as query
@@ -11,9 +15,36 @@ use Rattle.fk_script.specs.declared.command.Command.{Command}
 use Rattle.fk_script.specs.declared.command.Command.TheVariants as command
 use Rattle.fk_spec.specs.Client as spec
 use Rattle.fk_spec.specs.Plan.{Unfit, Writes, Reads, at_path, is_small, parts_of, path_within, path_limit, want_delete, want_multi, want_of}
-use Rattle.fk_client.specs.Answering.{sets_watch, shown_found}
 use Rattle.fk_client.specs.Meaning.{is_read}
 use Rattle.fk_spec.specs.Replies.{shown_read}
+
+-- what a command shows of a node
+abbrev shown_node : ℕ → Node → Command → Shown
+shown_node n x (command.Create path bytes seq eph wait) = shown.Plain code.SystemError
+shown_node n x (command.Set path bytes version wait) = shown.Plain code.SystemError
+shown_node n x (command.Delete path version wait) = shown.Plain code.SystemError
+shown_node n x (command.Get path watch) = shown.Got n x.bytes (stat_of x)
+shown_node n x (command.Stat path watch) = shown.Stated n (stat_of x)
+shown_node n x (command.Ls path watch) = shown.Listed n x.names
+shown_node n x command.Close = shown.Plain code.SystemError
+shown_node n x (command.Multi parts wait) = shown.Plain code.SystemError
+
+abbrev shown_found : ℕ → Option Node → Command → Shown
+shown_found n None c = shown.Refused code.NoNode n 0
+shown_found n (Some x) c = shown_node n x c
+
+-- whether a command sets a watch where a node was found or not
+abbrev sets_watch : Command → Bool → Bool
+sets_watch (command.Create path bytes seq eph wait) found = false
+sets_watch (command.Set path bytes version wait) found = false
+sets_watch (command.Delete path version wait) found = false
+sets_watch (command.Get path watch) found = watch && found
+sets_watch (command.Stat path watch) found = watch
+sets_watch (command.Ls path watch) found = watch && found
+sets_watch command.Close found = false
+sets_watch (command.Multi parts wait) found = false
+
+-- ---- as the rules say of what a command wants
 
 no_write : (o : Option PathNames) (f : PathNames → Request) → is_read (at_path o (λ p. Writes (f p))) ≡ false
 no_write None f = refl

@@ -39,7 +39,9 @@ IsNextRead (Some a) path = WantsRead a.want path
 
 -- what a read finds at a path, where the storage doesn't fail
 abbrev pub read_at : user.Meaning → PathNames → Option Reading
-read_at u path = if u.armed then None else Some (record { node = (u.records path).node; stamp = (u.records path).stamp; looked = false })
+read_at u path =
+    if u.armed then None
+    else Some (record { node = (u.records path).node; stamp = (u.records path).stamp; looked = false })
 
 -- the post after a request was sent, where there is memory
 abbrev pub posted : ℕ → ℕ → Request → post.Meaning → post.Meaning

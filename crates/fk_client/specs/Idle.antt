@@ -35,8 +35,13 @@ waits_reading m (Some r) = not (asks_read (next_ask m))
 -- A client is idle where it owes no answer, its inbox is empty, it has nothing to look for and nothing to register,
 -- and there is no next command or it has to wait.
 abbrev pub is_idle : post.Meaning → Meaning → Bool
-is_idle q m = owes_none m.client.owed && holds_none (q.lanes (lane.Inbox m.session)).waiting && is_none (target_of by_outcome m.seen m.client m.client.reading) && waits_reading m m.client.reading
+is_idle q m =
+    owes_none m.client.owed
+    && holds_none (q.lanes (lane.Inbox m.session)).waiting
+    && is_none (target_of by_outcome m.seen m.client m.client.reading)
+    && waits_reading m m.client.reading
 
 -- Whatever the other services hold, its operation is none exactly where it is idle.
 abbrev pub IdleIsExact : post.Meaning → Meaning → Type 0
-IdleIsExact q m = (t : table.Meaning) (w : Watches) (u : user.Meaning) (told : Option Tell) → IsTold (q.lanes (lane.Inbox m.session)).waiting told → schedule.is_idle (step_op t q w u told m) ≡ is_idle q m
+IdleIsExact q m = (t : table.Meaning) (w : Watches) (u : user.Meaning) (told : Option Tell)
+    → IsTold (q.lanes (lane.Inbox m.session)).waiting told → schedule.is_idle (step_op t q w u told m) ≡ is_idle q m

@@ -16,7 +16,14 @@ all_known (s ∷ ss) = sent_known s ∷ all_known ss
 
 -- what the rules know of a client: all but what its commits told beside their number
 abbrev pub client_known : Client Unanswered → Client Sent
-client_known x = record { begun = x.begun; sent = all_known x.sent; held = x.held; owed = x.owed; reading = x.reading; closed = x.closed }
+client_known x = record {
+  begun = x.begun;
+  sent = all_known x.sent;
+  held = x.held;
+  owed = x.owed;
+  reading = x.reading;
+  closed = x.closed;
+}
 
 abbrev pub told_known : Option Outcome → Option Result
 told_known None = None
@@ -24,8 +31,11 @@ told_known (Some o) = Some (known o)
 
 -- It makes the operation that the rules' client makes.
 abbrev pub MakesTheSameOp : Type 0
-MakesTheSameOp = (s : Sight) (x : Client Unanswered) → op_of_client by_outcome s x ≡ op_of_client by_result s (client_known x)
+MakesTheSameOp = (s : Sight) (x : Client Unanswered)
+    → op_of_client by_outcome s x ≡ op_of_client by_result s (client_known x)
 
 -- After each operation the rules know of it what their client comes to.
 abbrev pub ComesToTheSame : Type 0
-ComesToTheSame = (s : Sight) (told : Option Outcome) (o : Op) (x : Client Unanswered) → client_known (flushed by_outcome (acted by_outcome s told o x)) ≡ flushed by_result (acted by_result s (told_known told) o (client_known x))
+ComesToTheSame = (s : Sight) (told : Option Outcome) (o : Op) (x : Client Unanswered)
+    → client_known (flushed by_outcome (acted by_outcome s told o x))
+    ≡ flushed by_result (acted by_result s (told_known told) o (client_known x))

@@ -7,6 +7,7 @@ use Rattle.fk_tree.specs.declared.request.Query.{Query}
 use Rattle.fk_watch.specs.declared.watch.Watch.{Watch}
 use Rattle.fk_watch.specs.Meaning.{Watches, failed}
 use Rattle.fk_watch.specs.Registering.{registered}
+use Rattle.fk_watch.specs.Setting.{watch_on}
 use Rattle.fk_spec.specs.Sight.{number_or_next}
 use Rattle.fk_spec.specs.Plan.{Ask, Want, Unfit, Writes, Reads}
 use Rattle.fk_client.specs.declared.registering.Registered.{Registered}
@@ -14,7 +15,7 @@ use Rattle.fk_client.specs.declared.registering.Registered.TheVariants as regist
 
 -- the watch that a query of a session sets
 abbrev pub watch_of : ℕ → Query → Watch
-watch_of session q = record { session = session; path = path_asked q; kind = kind_asked q }
+watch_of session q = watch_on session (path_asked q) (kind_asked q)
 
 abbrev pub query_of : Want → Option Query
 query_of Unfit = None
@@ -41,7 +42,10 @@ watch_number m w = number_or_next m.given (set_number w m.set m.given)
 
 -- What becomes of a registration for a read at a number: a sweep beyond it touched the path, or the watch is set.
 abbrev pub register_for : Watches → Watch → ℕ → Registered
-register_for m w number = if m.armed then registering.Failed else if nat_lt number (m.last w.path) then registering.Swept (m.last w.path) else registering.Set (watch_number m w)
+register_for m w number =
+    if m.armed then registering.Failed
+    else if nat_lt number (m.last w.path) then registering.Swept (m.last w.path)
+    else registering.Set (watch_number m w)
 
 -- the table of watches after it
 abbrev pub after_registered : Watches → Watch → Registered → Watches

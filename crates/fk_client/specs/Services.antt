@@ -1,7 +1,5 @@
 -- What the services mean after an operation of a client. Each operation uses one of them.
 use Rattle.std.specs.Prelude.{ℕ, List, Option, Some, None}
-use Rattle.fk_tree.specs.Ask.{path_asked}
-use Rattle.fk_tree.specs.Watch.{kind_asked}
 use Rattle.fk_tree.specs.declared.request.Request.{Request}
 use Rattle.fk_print.specs.declared.op.Op.{Op}
 use Rattle.fk_print.specs.declared.op.Op.TheVariants as op
@@ -21,6 +19,7 @@ use Rattle.fk_wire.specs.declared.version.Version.TheVariants as version
 use Rattle.fk_spec.specs.Plan.{Ask, Want, Unfit, Writes, Reads}
 use Rattle.fk_client.specs.Meaning.{Meaning, next_ask}
 use Rattle.fk_client.specs.Operation.{step_op}
+use Rattle.fk_client.specs.Registering.{watch_of}
 use Rattle.fk_client.specs.Shown.{after_by, lines_by}
 use Rattle.fk_print.specs.declared.line.Line.{Line}
 
@@ -80,7 +79,7 @@ post_by m o q = posted_as m (posting o) q
 abbrev pub registered_for : ℕ → ℕ → Want → Watches → Watches
 registered_for session watch Unfit w = w
 registered_for session watch (Writes r) w = w
-registered_for session watch (Reads q flag) w = registered (record { session = session; path = path_asked q; kind = kind_asked q }) watch w
+registered_for session watch (Reads q flag) w = registered (watch_of session q) watch w
 
 abbrev pub registered_asked : ℕ → ℕ → Option Ask → Watches → Watches
 registered_asked session watch None w = w

@@ -62,7 +62,12 @@ shown_outcome a o = shown_as (shown_kept a o) (known o)
 
 -- how a client of this session, whose commands ask this, words its replies
 abbrev pub wording_of : ℕ → List Ask → Wording Unanswered
-wording_of session asks = record { session = session; asks = asks; command = λ s. s.command; shows = λ s. shown_outcome (nth asks s.command) s.outcome }
+wording_of session asks = record {
+  session = session;
+  asks = asks;
+  command = λ s. s.command;
+  shows = λ s. shown_outcome (nth asks s.command) s.outcome;
+}
 
 -- how a client words its replies
 abbrev pub wording : Meaning → Wording Unanswered

@@ -1,10 +1,11 @@
 -- What a client reads of its services.
-use Rattle.std.specs.Prelude.{ℕ, ◌+◌, Option, Some, None}
+use Rattle.std.specs.Prelude.{◌+◌, Option, Some, None}
 use Rattle.fk_queue.specs.Meaning as post
 use Rattle.fk_queue.specs.declared.lane.Lane.TheVariants as lane
 use Rattle.fk_user.specs.Meaning as user
 use Rattle.fk_watch.specs.Meaning.{Watches}
-use Rattle.fk_wire.specs.declared.fired.Fired.{Fired}
+use Rattle.fk_watch.specs.Notes.{firing_as}
+use Rattle.fk_watch.specs.Setting.{watch_on}
 use Rattle.fk_wire.specs.declared.message.Tell.{Tell}
 use Rattle.fk_wire.specs.declared.message.Tell.TheVariants as tell
 use Rattle.fk_spec.specs.Lanes.{Message, Done, Evicted, Kept, Watch, Ping}
@@ -45,16 +46,13 @@ abbrev pub outcome_told : Option Tell → Option Outcome
 outcome_told None = None
 outcome_told (Some m) = outcome_in m
 
-abbrev pub firing_by : ℕ → Fired → Firing
-firing_by tx f = record { watch = record { id = f.id; session = f.session; path = f.path; kind = f.kind }; tx = tx; change = f.change }
-
 -- how the watch fired that a message tells of
 abbrev pub firing_in : Tell → Option Firing
 firing_in (tell.Done k tx name version made) = None
 firing_in (tell.Evicted k tx) = None
 firing_in (tell.Refused k code at place) = None
 firing_in (tell.Lost k path own found moment) = None
-firing_in (tell.Watch tx fired) = Some (firing_by tx fired)
+firing_in (tell.Watch tx fired) = Some (firing_as tx fired)
 firing_in (tell.Ping n) = None
 
 abbrev pub firing_told : Option Tell → Option Firing
@@ -76,7 +74,7 @@ sight_by q w u told m = record {
   node = λ path. (u.records path).node;
   stamp = λ path. (u.records path).stamp;
   sweep = λ path. w.last path;
-  watch = λ path kind. watch_number w (record { session = m.session; path = path; kind = kind });
+  watch = λ path kind. watch_number w (watch_on m.session path kind);
   firing = λ id. firing_told told;
 }
 

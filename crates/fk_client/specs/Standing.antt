@@ -15,5 +15,12 @@ client_of c = record {
   session = c.session;
   asks = asks_of c.commands;
   seen = c.seen;
-  client = record { begun = c.begun; sent = c.sent.items; held = c.held.items; owed = pings_of c.owed; reading = reading_in c.reading; closed = c.closed };
+  client = record {
+    begun = c.begun;
+    sent = c.sent.items;
+    held = c.held.items;
+    owed = pings_of c.owed;
+    reading = reading_in c.reading;
+    closed = c.closed;
+  };
 }

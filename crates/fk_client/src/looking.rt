@@ -6,14 +6,14 @@ ghost use Rattle.fk_user.specs.Meaning.{called};
 ghost use Rattle.fk_user.specs.Stored.{store_of};
 ghost use Rattle.fk_wire.specs.declared.message.Tell.{Tell};
 ghost use Rattle.fk_watch.specs.Meaning.{Watches};
-ghost use Rattle.fk_spec.specs.Plan.{nth};
+ghost use Rattle.fk_spec.specs.Plan.{nth, want_of};
 ghost use Rattle.fk_spec.specs.Client as rules;
-ghost use Rattle.fk_spec.specs.Client.{answered, close_if, is_close, look_op, looked, looked_for, registers, target_of, target_sent};
-ghost use Rattle.fk_spec.specs.Replies.{first_line, looked_lines};
+ghost use Rattle.fk_spec.specs.Client.{answered, close_if, is_close, look_op, looked, looked_for, registers, sets_watch, target_of, target_sent};
+ghost use Rattle.fk_spec.specs.Replies.{first_line, looked_lines, shown_read};
 ghost use Rattle.fk_client.specs.Acting.{GoesOn, KeepsPost, KeepsTable, KeepsWatches, Prints};
-ghost use Rattle.fk_client.specs.Answering.{looked_at, sets_watch, shown_found};
+ghost use Rattle.fk_client.specs.Answering.{looked_at};
 ghost use Rattle.fk_client.specs.Known.{by_outcome, reading_as, target_as, target_in};
-ghost use Rattle.fk_client.specs.Meaning.{asks_read, holding, next_ask};
+ghost use Rattle.fk_client.specs.Meaning.{asks_read, holding, is_read, next_ask};
 ghost use Rattle.fk_client.specs.Operation.{failed_if};
 ghost use Rattle.fk_client.specs.Services.{user_by};
 ghost use Rattle.fk_client.specs.Shown.{next_lines, read_lines, seeing, wording};
@@ -83,8 +83,10 @@ fn target_sent(sent: &[Unanswered]) -> Option<Target>
 }
 
 /// What a read shows at a number.
+#[tactic(auto, using(crate::proofs::Finding::shown_is))]
 fn shown_found(at: u64, found: Option<Node>, command: &Command) -> Shown
-    ensures { result ≡ shown_found at found command.now }
+    requires { is_read (want_of command.now) ≡ true }
+    ensures { result ≡ shown_read at found (want_of command.now) }
 {
     let Some(node) = found else {
         return Shown::Refused {
@@ -114,11 +116,13 @@ fn shown_found(at: u64, found: Option<Node>, command: &Command) -> Shown
 }
 
 // whether a read sets a watch: with -w where the node is there, and a stat on a missing node too
-fn sets_watch(command: &Command, found: bool) -> bool
-    ensures { result ≡ sets_watch command.now found }
+#[tactic(auto, using(crate::proofs::Finding::sets_is))]
+fn sets_watch(command: &Command, found: &Option<Node>) -> bool
+    requires { is_read (want_of command.now) ≡ true }
+    ensures { result ≡ sets_watch (want_of command.now) found.now }
 {
     match command {
-        Command::Get { watch, .. } | Command::Ls { watch, .. } => *watch && found,
+        Command::Get { watch, .. } | Command::Ls { watch, .. } => *watch && found.is_some(),
         Command::Stat { watch, .. } => *watch,
         Command::Create { .. }
         | Command::Set { .. }
@@ -269,7 +273,7 @@ impl Client {
         let Some(command) = self.next() else {
             unreachable!();
         };
-        if sets_watch(command, reading.node.is_some()) {
+        if sets_watch(command, &reading.node) {
             self.reading = Some(Reading {
                 node: reading.node,
                 stamp: reading.stamp,

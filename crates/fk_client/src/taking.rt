@@ -16,7 +16,8 @@ ghost use Rattle.fk_client.specs.Meaning.{holding};
 ghost use Rattle.fk_client.specs.Operation.{failed_if};
 ghost use Rattle.fk_client.specs.Services.{post_by};
 ghost use Rattle.fk_client.specs.Shown.{seeing};
-ghost use Rattle.fk_client.specs.Sighting.{firing_by, message_told};
+ghost use Rattle.fk_client.specs.Sighting.{message_told};
+ghost use Rattle.fk_watch.specs.Notes.{firing_as};
 ghost use Rattle.fk_client.specs.Standing.{client_of};
 ghost use Rattle.fk_client.specs.Told.{IsReadable, IsTold};
 
@@ -210,7 +211,7 @@ impl Client {
     // a watch fired, which it prints where it holds the watch
     #[tactic(auto, unfolding(crate::specs::Standing::client_of))]
     fn notice(&mut self, tx: u64, fired: Fired) -> Result<Lines, NoMemory>
-        ensures lines { let notice = notice_of self.old.session (Some (firing_by tx fired)) in
+        ensures lines { let notice = notice_of self.old.session (Some (firing_as tx fired)) in
             IfOk result (λ ls. ls
             ≡ (if contains fired.id self.old.held.items then notice else [])) }
         ensures client { let m = client_of self.old in

@@ -1,6 +1,6 @@
 -- What the answers of the services say is the operation by the services' meanings.
 use Rattle.std.proofs.Common.{◌≡◌, ℕ, ◌+◌, Bool, true, false, cond, List, [], Option, Some, None, refl}
-use Rattle.std.specs.Prelude.{◌==◌, option_map}
+use Rattle.std.specs.Prelude.{◌==◌}
 use Rattle.fk_base.specs.Path.{PathNames}
 use Rattle.fk_print.specs.declared.op.Op.TheVariants as op
 use Rattle.fk_print.specs.declared.op.Word.TheVariants as word
@@ -12,25 +12,21 @@ use Rattle.fk_queue.specs.declared.lane.Lane.{Lane}
 use Rattle.fk_store.specs.Conds.{session_of}
 use Rattle.fk_store.specs.Meaning.{Meaning}
 use Rattle.fk_tree.specs.Check.{Refusal}
-use Rattle.fk_spec.specs.Follower.{Follower, ack_op, commit_locked, refuse_locked}
-use Rattle.fk_settle.specs.Held.{Passed, first_passed}
+use Rattle.fk_spec.specs.Follower.{Follower, ack_op, refuse_locked}
+use Rattle.fk_spec.specs.Locks.{Passed}
+use Rattle.fk_settle.specs.Held.{first_passed}
 use Rattle.fk_spec.specs.Failing.{or_fault}
-use Rattle.fk_follow.specs.Operation.{commit_op, locked, lost_op, passed_as}
-use Rattle.fk_settle.specs.Verdicts.{verdict_of, verdict_on}
-use Rattle.fk_follow.specs.Said.{ack_by, commit_by, lost_by, refuse_by, refuse_on}
+use Rattle.fk_follow.specs.Operation.{commit_op, locked, lost_op, refuse_on}
+use Rattle.fk_settle.specs.Verdicts.{commit_by, verdict_of, verdict_on}
+use Rattle.fk_settle.proofs.Commits.{commit_told}
+use Rattle.fk_follow.specs.Said.{ack_by, lost_by, refuse_by}
 use Rattle.fk_settle.specs.declared.settling.Verdict.TheVariants as verdict
 
--- by whether the table is armed, whether the request is the next, and the first lock that passed on
-commit_chosen : (n tx settled : ℕ) (a b : Bool) (o : Option Passed) → commit_by n tx (cond a verdict.Failed (cond b (verdict_on o) (verdict.Settled settled))) ≡ cond a (op.Fault n word.Commit) (cond b (commit_locked n tx (option_map passed_as o)) (op.CommitSettled n tx settled))
-commit_chosen n tx settled true b o = refl
-commit_chosen n tx settled false true None = refl
-commit_chosen n tx settled false true (Some x) = refl
-commit_chosen n tx settled false false o = refl
-
 pub commit_said : (t : Meaning) (n tx : ℕ) (f : Follower) → commit_by n tx (verdict_of t f.session f.k n (locked f)) ≡ or_fault t.armed n word.Commit (commit_op t n tx f)
-commit_said t n tx f = commit_chosen n tx (session_of t f.session).settled t.armed ((session_of t f.session).settled + 1 == f.k) (first_passed n t (locked f))
+commit_said t n tx f = commit_told t n tx f.session f.k n (locked f)
 
-refuse_chosen : (n : ℕ) (r : Refusal) (at settled : ℕ) (a b : Bool) (o : Option Passed) → refuse_by n r at (cond a verdict.Failed (cond b (verdict_on o) (verdict.Settled settled))) ≡ cond a (op.Fault n word.Refuse) (cond b (refuse_locked n r at (option_map passed_as o)) (op.RefuseSettled n r.code r.place at settled))
+-- by whether the table is armed, whether the request is the next, and the first lock that passed on
+refuse_chosen : (n : ℕ) (r : Refusal) (at settled : ℕ) (a b : Bool) (o : Option Passed) → refuse_by n r at (cond a verdict.Failed (cond b (verdict_on o) (verdict.Settled settled))) ≡ cond a (op.Fault n word.Refuse) (cond b (refuse_locked n r at o) (op.RefuseSettled n r.code r.place at settled))
 refuse_chosen n r at settled true b o = refl
 refuse_chosen n r at settled false true None = refl
 refuse_chosen n r at settled false true (Some x) = refl

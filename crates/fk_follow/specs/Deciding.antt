@@ -25,4 +25,5 @@ or_decided seen session last gs r None = decided_as (refused_at seen last gs) (c
 
 -- the state of a follower of this session that was granted these locks
 abbrev pub state_after : ℕ → ℕ → ℕ → List PathNames → List Granted → Request → State
-state_after seen session last owned gs r = or_decided seen session last gs r (item_after (lock_paths (view_of (grants_of gs)) owned r) (length gs))
+state_after seen session last owned gs r =
+    or_decided seen session last gs r (item_after (lock_paths (view_of (grants_of gs)) owned r) (length gs))

@@ -24,7 +24,14 @@ pub record Meaning : Type 0 where
 
 -- a follower that starts on message k of a session
 abbrev pub started : ℕ → ℕ → ℕ → Sent → Meaning
-started inv session k message = record { inv = inv; message = message; follower = begin session k; owns = []; moment = 0; outcome = kept.Nothing }
+started inv session k message = record {
+  inv = inv;
+  message = message;
+  follower = begin session k;
+  owns = [];
+  moment = 0;
+  outcome = kept.Nothing;
+}
 
 abbrev pub is_end : Stage → Bool
 is_end stage.Session = false

@@ -17,7 +17,14 @@ use Rattle.fk_follow.specs.Operation.{step_op}
 
 -- it goes on as this, without a moment and an outcome
 abbrev pub going_on : Follower → Meaning → Meaning
-going_on f m = record { inv = m.inv; message = m.message; follower = f; owns = m.owns; moment = 0; outcome = kept.Nothing }
+going_on f m = record {
+  inv = m.inv;
+  message = m.message;
+  follower = f;
+  owns = m.owns;
+  moment = 0;
+  outcome = kept.Nothing;
+}
 
 abbrev pub standing : Stage → Follower → Follower
 standing s f = record f { stage = s }
@@ -27,11 +34,25 @@ going_to s m = going_on (standing s m.follower) m
 
 -- before a commit, with the moment of its push
 abbrev pub committing : ℕ → ℕ → Meaning → Meaning
-committing tx now m = record { inv = m.inv; message = m.message; follower = standing (stage.Commit tx) m.follower; owns = m.owns; moment = now; outcome = kept.Nothing }
+committing tx now m = record {
+  inv = m.inv;
+  message = m.message;
+  follower = standing (stage.Commit tx) m.follower;
+  owns = m.owns;
+  moment = now;
+  outcome = kept.Nothing;
+}
 
 -- with an outcome that is to be settled, or that was kept
 abbrev pub with_outcome : Stage → Outcome → Meaning → Meaning
-with_outcome s o m = record { inv = m.inv; message = m.message; follower = standing s m.follower; owns = m.owns; moment = 0; outcome = o }
+with_outcome s o m = record {
+  inv = m.inv;
+  message = m.message;
+  follower = standing s m.follower;
+  owns = m.owns;
+  moment = 0;
+  outcome = o;
+}
 
 -- a lock that it was granted has passed on
 abbrev pub losing : PathNames → ℕ → ℕ → Meaning → Meaning
@@ -39,7 +60,11 @@ losing path holder moment m = with_outcome stage.Lost (kept.Lost path (own_momen
 
 -- what the record of a path shows
 abbrev pub granted_at : table.Meaning → PathNames → Granted
-granted_at t path = record { path = path; node = (or_no_record (t.nodes path)).node; last = (or_no_record (t.nodes path)).last }
+granted_at t path = record {
+  path = path;
+  node = (or_no_record (t.nodes path)).node;
+  last = (or_no_record (t.nodes path)).last;
+}
 
 abbrev pub with_granted : Granted → Follower → Follower
 with_granted g f = record f { granted = f.granted ++ g ∷ [] }
@@ -59,11 +84,15 @@ beginning f m = going_on (to_begin m.message.seen m.message.request f) m
 abbrev pub holding : Granted → ℕ → Meaning → Meaning
 holding g now m = locking (with_granted g m.follower) (with_own g.path now m)
 
+-- the last commit of its session
+abbrev pub last_in : table.Meaning → Meaning → ℕ
+last_in t m = (session_of t m.follower.session).last
+
 -- What comes after each answer, on this table at this moment. `owned` is what the table gives for the session's
 -- own nodes.
 abbrev pub next_with : table.Meaning → List PathNames → ℕ → Op → Meaning → Meaning
-next_with t owned now (op.SessionNew n) m = beginning (record m.follower { last = (session_of t m.follower.session).last }) m
-next_with t owned now (op.SessionClosed n) m = going_to (stage.Expire (max m.message.seen (session_of t m.follower.session).last)) m
+next_with t owned now (op.SessionNew n) m = beginning (record m.follower { last = last_in t m }) m
+next_with t owned now (op.SessionClosed n) m = going_to (stage.Expire (max m.message.seen (last_in t m))) m
 next_with t owned now (op.SessionApplied n) m = going_to stage.Ack m
 next_with t owned now (op.SessionRefused n) m = with_outcome stage.Reply (session_of t m.follower.session).outcome m
 next_with t owned now (op.SessionPast n) m = going_to stage.Ack m

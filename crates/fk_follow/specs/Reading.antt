@@ -21,7 +21,9 @@ unless_armed t x = if t.armed then None else Some x
 -- what becomes of taking a lock
 abbrev pub took_of : Meaning → PathNames → ℕ → ℕ → Took
 took_of t p now time =
-    if t.armed then took.Failed else if is_free now time (lock_of t p) then took.Granted (or_no_record (t.nodes p)).node (or_no_record (t.nodes p)).last else took.Busy (lock_of t p)
+    if t.armed then took.Failed
+    else if is_free now time (lock_of t p) then took.Granted (or_no_record (t.nodes p)).node (or_no_record (t.nodes p)).last
+    else took.Busy (lock_of t p)
 
 -- whether a lock had passed on
 abbrev pub is_passed : Verdict → Bool

@@ -1,25 +1,14 @@
 -- The operation of each answer.
-use Rattle.std.specs.Prelude.{ℕ, ◌+◌, ◌==◌, if◌then◌else◌, List}
-use Rattle.fk_base.specs.Path.{PathNames}
+use Rattle.std.specs.Prelude.{ℕ}
 use Rattle.fk_base.specs.declared.code.Code.{Code}
 use Rattle.fk_print.specs.declared.op.Op.{Op}
 use Rattle.fk_print.specs.declared.op.Op.TheVariants as op
 use Rattle.fk_print.specs.declared.op.Word.TheVariants as word
 use Rattle.fk_queue.specs.declared.answer.Ack.{Ack}
 use Rattle.fk_queue.specs.declared.answer.Ack.TheVariants as ack
-use Rattle.fk_store.specs.Conds.{session_of}
-use Rattle.fk_store.specs.Meaning.{Meaning}
 use Rattle.fk_tree.specs.Check.{Refusal}
-use Rattle.fk_spec.specs.Follower.{Follower, refuse_locked}
-use Rattle.fk_follow.specs.Operation.{lock_passed}
 use Rattle.fk_settle.specs.declared.settling.Verdict.{Verdict}
 use Rattle.fk_settle.specs.declared.settling.Verdict.TheVariants as verdict
-
-abbrev pub commit_by : ℕ → ℕ → Verdict → Op
-commit_by n tx verdict.Done = op.CommitOk n tx
-commit_by n tx (verdict.Settled settled) = op.CommitSettled n tx settled
-commit_by n tx (verdict.Passed path holder moment) = op.CommitLock n tx path holder moment
-commit_by n tx verdict.Failed = op.Fault n word.Commit
 
 abbrev pub refusal_of : Code → ℕ → Refusal
 refusal_of code place = record { code = code; place = place }
@@ -41,7 +30,3 @@ abbrev pub ack_by : ℕ → Ack → Op
 ack_by n ack.Acked = op.AckOk n
 ack_by n ack.NotHead = op.AckGone n
 ack_by n ack.Failed = op.Fault n word.Ack
-
--- a refusal where these locks are held
-abbrev pub refuse_on : Meaning → ℕ → Refusal → ℕ → Follower → List PathNames → Op
-refuse_on t n r at f ps = if (session_of t f.session).settled + 1 == f.k then refuse_locked n r at (lock_passed n t ps) else op.RefuseSettled n r.code r.place at (session_of t f.session).settled

@@ -5,7 +5,8 @@ use Rattle.fk_wire.specs.declared.message.Tell.{Tell}
 use Rattle.fk_spec.specs.Follower.{Stage}
 use Rattle.fk_spec.specs.Follower as stage
 use Rattle.fk_follow.specs.Meaning.{Meaning}
-use Rattle.fk_follow.specs.Services.{kept_tell, push_at}
+use Rattle.fk_stand.specs.Messages.{outcome_tell}
+use Rattle.fk_follow.specs.Services.{push_at}
 
 -- nothing is told, or a message whose text is read back
 abbrev pub IsToldReadable : Option Tell → Type 0
@@ -21,7 +22,7 @@ is_readable_at now m (stage.Refuse r at) = ⊤
 is_readable_at now m (stage.Expire at) = ⊤
 is_readable_at now m (stage.Commit tx) = ⊤
 is_readable_at now m stage.Lost = ⊤
-is_readable_at now m stage.Reply = IsToldReadable (kept_tell m.follower.k m.outcome)
+is_readable_at now m stage.Reply = IsToldReadable (outcome_tell m.follower.k m.outcome)
 is_readable_at now m stage.Ack = ⊤
 is_readable_at now m stage.Ended = ⊤
 

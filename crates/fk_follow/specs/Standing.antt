@@ -64,7 +64,14 @@ unfoldable pub follower_of : Follower → Meaning
 follower_of f = record {
   inv = f.inv;
   message = f.message;
-  follower = record { session = f.session; k = f.k; last = f.last; owned = f.owned; granted = grants_of f.granted.items; stage = stage_of f.state };
+  follower = record {
+    session = f.session;
+    k = f.k;
+    last = f.last;
+    owned = f.owned;
+    granted = grants_of f.granted.items;
+    stage = stage_of f.state;
+  };
   owns = owns_of f.granted.items;
   moment = moment_of f.state;
   outcome = outcome_in f.state;

@@ -23,7 +23,11 @@ pub record Run : Type 0 where
 
 -- one step at moment 11, where locks pass on after 10 and the session owns no node
 abbrev pub stepped : Run → Run
-stepped r = record { follower = after_step r.table r.post 11 10 [] r.follower; table = table_after_step r.table 11 10 r.follower; post = post_after_step r.post 11 r.follower }
+stepped r = record {
+  follower = after_step r.table r.post 11 10 [] r.follower;
+  table = table_after_step r.table 11 10 r.follower;
+  post = post_after_step r.post 11 r.follower;
+}
 
 -- the operations of so many steps
 abbrev pub ops_of : ℕ → Run → List Op
@@ -37,23 +41,41 @@ run_to (suc n) r = run_to n (stepped r)
 
 -- a follower of invocation 1 on a request of session 1, which stands in its lane, on new services
 abbrev pub run_of : Request → Run
-run_of r = record { follower = started 1 1 1 (record { request = r; seen = 0 }); table = table.new_table 1; post = post.pushed (lane.Session 1) (codes "request") (post.new_post 1) }
+run_of r = record {
+  follower = started 1 1 1 (record { request = r; seen = 0 });
+  table = table.new_table 1;
+  post = post.pushed (lane.Session 1) (codes "request") (post.new_post 1);
+}
 
 abbrev pub x : PathNames
 x = codes "x" ∷ []
+
+-- the path of a node whose parent is missing
+abbrev pub orphan : PathNames
+orphan = codes "m" ∷ codes "y" ∷ []
 
 abbrev pub create_of : PathNames → Request
 create_of p = request.Create p (codes "hi") false false
 
 -- a create locks the parent and the path, pushes, and commits
 abbrev pub CreateRuns : Type 0
-CreateRuns = (ops_of 6 (run_of (create_of x)) ≡ op.SessionNew 1 ∷ op.LockOk 1 [] ∷ op.LockOk 1 x ∷ op.Push 1 1 ∷ op.CommitOk 1 1 ∷ op.AckOk 1 ∷ [])
+CreateRuns =
+    (ops_of 6 (run_of (create_of x))
+    ≡ op.SessionNew 1 ∷ op.LockOk 1 [] ∷ op.LockOk 1 x ∷ op.Push 1 1 ∷ op.CommitOk 1 1 ∷ op.AckOk 1 ∷ [])
     × (is_ended (run_to 5 (run_of (create_of x))).follower ≡ false)
     × (is_ended (run_to 6 (run_of (create_of x))).follower ≡ true)
 
 -- a create under a missing parent is refused, and its client is told
 abbrev pub OrphanIsRefused : Type 0
-OrphanIsRefused = ops_of 6 (run_of (create_of (codes "m" ∷ codes "y" ∷ []))) ≡ op.SessionNew 1 ∷ op.LockOk 1 (codes "m" ∷ []) ∷ op.LockOk 1 (codes "m" ∷ codes "y" ∷ []) ∷ op.RefuseOk 1 code.NoNode 0 0 ∷ op.Reply 1 1 1 ∷ op.AckOk 1 ∷ []
+OrphanIsRefused =
+    ops_of 6 (run_of (create_of orphan))
+    ≡ op.SessionNew 1
+    ∷ op.LockOk 1 (codes "m" ∷ [])
+    ∷ op.LockOk 1 orphan
+    ∷ op.RefuseOk 1 code.NoNode 0 0
+    ∷ op.Reply 1 1 1
+    ∷ op.AckOk 1
+    ∷ []
 
 abbrev pub armed_table : Run → Run
 armed_table r = record { follower = r.follower; table = table.armed r.table; post = r.post }

@@ -18,7 +18,8 @@ ghost use Rattle.fk_wire.specs.declared.version.Version.TheVariants as version;
 ghost use Rattle.fk_follow.specs.Next.{next_with};
 ghost use Rattle.fk_spec.specs.Failing.{or_fault};
 ghost use Rattle.fk_queue.specs.Meaning.{posted};
-ghost use Rattle.fk_follow.specs.Services.{gone_of, push_at};
+ghost use Rattle.fk_follow.specs.Services.{push_at};
+ghost use Rattle.fk_stand.specs.Messages.{gone_of};
 ghost use Rattle.fk_follow.specs.Standing.{follower_of};
 
 use crate::deciding::rows_of;

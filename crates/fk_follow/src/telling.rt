@@ -15,7 +15,8 @@ ghost use Rattle.fk_follow.specs.Next.{GoesOn, GoesOnAfter};
 ghost use Rattle.fk_spec.specs.Failing.{or_fault};
 ghost use Rattle.fk_follow.specs.Said.{ack_by};
 ghost use Rattle.fk_follow.specs.Sending.{IsToldReadable};
-ghost use Rattle.fk_follow.specs.Services.{kept_tell, told};
+ghost use Rattle.fk_follow.specs.Services.{told};
+ghost use Rattle.fk_stand.specs.Messages.{outcome_tell};
 ghost use Rattle.fk_follow.specs.Standing.{follower_of, outcome_of};
 
 use crate::follower::Follower;
@@ -26,7 +27,7 @@ use fk_queue::{Ack, Lane, Post, Posted};
 use fk_wire::{Tell, encode_tell};
 
 fn tell_of(k: u64, kept: Kept) -> Tell
-    ensures { kept_tell k (outcome_of kept) ≡ Some result }
+    ensures { outcome_tell k (outcome_of kept) ≡ Some result }
 {
     match kept {
         Kept::Refused { code, at, place } => Tell::Refused { k, code, at, place },
@@ -57,9 +58,9 @@ impl Follower {
         ensures op { IfOk result (λ o. o ≡ or_fault (post_of post.old).armed self.old.inv word.Reply
             (op.Reply self.old.inv self.old.session self.old.k)) }
         ensures follower { GoesOn result (follower_of self.old) (follower_of self.new) }
-        ensures post { let tell = kept_tell self.old.k (outcome_of kept) in
+        ensures post { let tell = outcome_tell self.old.k (outcome_of kept) in
             OnOk result (post_of post.new ≡ told self.old.session tell (post_of post.old)) }
-        ensures sent { OnOk result (IsToldReadable (kept_tell self.old.k (outcome_of kept))) }
+        ensures sent { OnOk result (IsToldReadable (outcome_tell self.old.k (outcome_of kept))) }
     {
         let tell = tell_of(self.k, kept);
         let text = encode_tell(self.alloc, &tell)?;

@@ -6,9 +6,12 @@ ghost use Rattle.fk_print.specs.declared.op.Word.TheVariants as word;
 ghost use Rattle.fk_store.specs.declared.outcome.Outcome.TheVariants as outcome;
 ghost use Rattle.fk_follow.specs.Next.{GoesOn, losing};
 ghost use Rattle.fk_spec.specs.Failing.{or_fault};
-ghost use Rattle.fk_follow.specs.Operation.{commit_op, expire_op, locked, paths_of};
-ghost use Rattle.fk_follow.specs.Said.{commit_by, refusal_of, refuse_by, refuse_on};
-ghost use Rattle.fk_follow.specs.Services.{committed, push_at, settled_as};
+ghost use Rattle.fk_spec.specs.Follower.{paths_of};
+ghost use Rattle.fk_follow.specs.Operation.{commit_op, expire_op, locked, refuse_on};
+ghost use Rattle.fk_settle.specs.Transaction.{committed};
+ghost use Rattle.fk_settle.specs.Verdicts.{commit_by};
+ghost use Rattle.fk_follow.specs.Said.{refusal_of, refuse_by};
+ghost use Rattle.fk_follow.specs.Services.{push_at, settled_as};
 ghost use Rattle.fk_follow.specs.Standing.{follower_of};
 
 use crate::follower::Follower;

@@ -1,6 +1,6 @@
 -- What the answers of the services say is the operation by the services' meanings.
-use Rattle.std.proofs.Common.{◌≡◌, ℕ, ◌+◌, Bool, true, false, cond, List, Option, Some, None, refl, arith}
-use Rattle.std.specs.Prelude.{◌==◌, nat_lt, option_map}
+use Rattle.std.proofs.Common.{◌≡◌, ℕ, Bool, true, false, cond, List, Option, Some, None, refl, arith}
+use Rattle.std.specs.Prelude.{◌==◌, nat_lt}
 use Rattle.std.proofs.lemmas.Bool.Decides.{nat_tests}
 use Rattle.fk_base.specs.Path.{PathNames}
 use Rattle.fk_tree.specs.Sorted.{in_path_order}
@@ -13,7 +13,6 @@ use Rattle.fk_queue.specs.Meaning as post
 use Rattle.fk_queue.specs.declared.answer.Ack.TheVariants as ack
 use Rattle.fk_queue.specs.declared.lane.Lane.{Lane}
 use Rattle.fk_store.specs.Answers.{IsTransact}
-use Rattle.fk_store.specs.Conds.{session_of}
 use Rattle.fk_store.specs.Meaning.{Meaning}
 use Rattle.fk_store.specs.declared.answer.Transact.{Transact}
 use Rattle.fk_store.specs.declared.answer.Transact.TheVariants as transact
@@ -25,28 +24,20 @@ use Rattle.fk_user.specs.declared.answer.Publish.TheVariants as publish
 use Rattle.fk_user.specs.declared.answer.PutRecord.{PutRecord}
 use Rattle.fk_user.specs.declared.answer.PutRecord.TheVariants as put
 use Rattle.fk_wire.specs.declared.message.Pushed.{Pushed}
-use Rattle.fk_spec.specs.Follower.{ack_op, commit_locked}
-use Rattle.fk_settle.specs.Held.{Passed, first_passed}
-use Rattle.fk_settle.specs.Verdicts.{verdict_of, verdict_on}
-use Rattle.fk_settle.specs.declared.settling.Verdict.TheVariants as verdict
+use Rattle.fk_spec.specs.Follower.{ack_op}
+use Rattle.fk_settle.specs.Verdicts.{commit_by, verdict_of}
+use Rattle.fk_settle.proofs.Commits.{commit_told}
 use Rattle.fk_spec.specs.Failing.{or_fault}
-use Rattle.fk_lead.specs.Operation.{commit_op, done_op, drop_op, passed_as, publish_op, put_op}
-use Rattle.fk_lead.specs.Said.{ack_by, commit_by, done_by, drop_by, finish_of, publish_by, put_by}
+use Rattle.fk_lead.specs.Operation.{commit_op, done_op, drop_op, publish_op, put_op}
+use Rattle.fk_lead.specs.Said.{ack_by, done_by, drop_by, finish_of, publish_by, put_by}
 use Rattle.fk_lead.specs.Services.{finish_conds, published_at, put_at}
 use Rattle.fk_lead.specs.declared.finishing.Finish.{Finish}
 use Rattle.fk_lead.specs.declared.finishing.Finish.TheVariants as finish
 
 -- ---- the table
 
--- by whether the table is armed, whether the request is the next, and the first lock that passed on
-commit_chosen : (n tx settled : ℕ) (a b : Bool) (o : Option Passed) → commit_by n tx (cond a verdict.Failed (cond b (verdict_on o) (verdict.Settled settled))) ≡ cond a (op.Fault n word.Commit) (cond b (commit_locked n tx (option_map passed_as o)) (op.CommitSettled n tx settled))
-commit_chosen n tx settled true b o = refl
-commit_chosen n tx settled false true None = refl
-commit_chosen n tx settled false true (Some x) = refl
-commit_chosen n tx settled false false o = refl
-
 pub commit_said : (t : Meaning) (n tx : ℕ) (x : Pushed) → commit_by n tx (verdict_of t x.session x.k x.inv (in_path_order x.paths)) ≡ or_fault t.armed n word.Commit (commit_op t n tx x)
-commit_said t n tx x = commit_chosen n tx (session_of t x.session).settled t.armed ((session_of t x.session).settled + 1 == x.k) (first_passed x.inv t (in_path_order x.paths))
+commit_said t n tx x = commit_told t n tx x.session x.k x.inv (in_path_order x.paths)
 
 -- what the answer of a transaction says that finishes a push
 abbrev pub finish_by : Transact → Finish

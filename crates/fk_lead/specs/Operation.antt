@@ -1,5 +1,5 @@
 -- The operation that a leader makes, by what it reads of the services.
-use Rattle.std.specs.Prelude.{ℕ, ◌+◌, ◌==◌, nat_lt, Bool, false, if◌then◌else◌, ◌||◌, List, [], ◌∷◌, length, option_map}
+use Rattle.std.specs.Prelude.{ℕ, ◌+◌, ◌==◌, nat_lt, Bool, false, if◌then◌else◌, ◌||◌, List, [], ◌∷◌, length}
 use Rattle.fk_base.specs.Path.{PathNames}
 use Rattle.fk_tree.specs.Sorted.{in_path_order}
 use Rattle.fk_print.specs.declared.op.Op.{Op}
@@ -18,21 +18,18 @@ use Rattle.fk_spec.specs.Failing.{or_fault}
 use Rattle.fk_spec.specs.Function.{leader_word}
 use Rattle.fk_spec.specs.Leader.{Stage}
 use Rattle.fk_spec.specs.Leader as stage
-use Rattle.fk_spec.specs.Locks as locks
-use Rattle.fk_settle.specs.Held.{Passed, first_passed}
+use Rattle.fk_settle.specs.Held.{first_passed}
 use Rattle.fk_lead.specs.Meaning.{Meaning, Swept}
 
 -- ---- what is read of the services
-
--- a path whose lock passed on, as a history says it
-abbrev pub passed_as : Passed → locks.Passed
-passed_as x = record { path = x.path; holder = x.holder; moment = x.moment }
 
 -- A push commits where its request is the session's next to settle and its function still holds each path that it
 -- locked.
 abbrev pub commit_op : table.Meaning → ℕ → ℕ → Pushed → Op
 commit_op t n tx x =
-    if (session_of t x.session).settled + 1 == x.k then commit_locked n tx (option_map passed_as (first_passed x.inv t (in_path_order x.paths))) else op.CommitSettled n tx (session_of t x.session).settled
+    if (session_of t x.session).settled + 1 == x.k
+    then commit_locked n tx (first_passed x.inv t (in_path_order x.paths))
+    else op.CommitSettled n tx (session_of t x.session).settled
 
 -- whether a push is among those that are pending
 abbrev pub is_pending : ℕ → List ℕ → Bool
@@ -40,17 +37,20 @@ is_pending tx [] = false
 is_pending tx (t ∷ ts) = (t == tx) || is_pending tx ts
 
 abbrev pub pending_op : table.Meaning → ℕ → ℕ → ℕ → Op
-pending_op t n tx session = if is_pending tx (session_of t session).pending then op.PendingYes n tx else op.PendingNo n tx
+pending_op t n tx session =
+    if is_pending tx (session_of t session).pending then op.PendingYes n tx else op.PendingNo n tx
 
 abbrev pub drop_op : table.Meaning → ℕ → ℕ → Op
 drop_op t n tx = if nat_lt t.done tx then op.DropOk n tx else op.DropMiss n tx t.done
 
 -- how many fired: at a sweep that comes late, those of the push that aren't told
 abbrev pub sweep_op : Watches → ℕ → ℕ → List Fired → Op
-sweep_op w n tx fired = if nat_lt w.swept tx then op.SweepOk n tx (length fired) else op.SweepMiss n tx w.swept (length fired)
+sweep_op w n tx fired =
+    if nat_lt w.swept tx then op.SweepOk n tx (length fired) else op.SweepMiss n tx w.swept (length fired)
 
 abbrev pub put_op : user.Meaning → ℕ → ℕ → PathNames → Op
-put_op u n tx path = if nat_lt (u.records path).stamp tx then op.PutOk n tx path else op.PutMiss n tx path (u.records path).stamp
+put_op u n tx path =
+    if nat_lt (u.records path).stamp tx then op.PutOk n tx path else op.PutMiss n tx path (u.records path).stamp
 
 abbrev pub publish_op : user.Meaning → ℕ → ℕ → Op
 publish_op u n tx = if nat_lt u.mark tx then op.PublishOk n tx else op.PublishMiss n tx u.mark

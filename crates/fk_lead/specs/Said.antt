@@ -13,17 +13,9 @@ use Rattle.fk_user.specs.declared.answer.PutRecord.{PutRecord}
 use Rattle.fk_user.specs.declared.answer.PutRecord.TheVariants as put
 use Rattle.fk_watch.specs.declared.answer.Sweep.{Sweep}
 use Rattle.fk_watch.specs.declared.answer.Sweep.TheVariants as sweep
-use Rattle.fk_settle.specs.declared.settling.Verdict.{Verdict}
-use Rattle.fk_settle.specs.declared.settling.Verdict.TheVariants as verdict
 use Rattle.fk_lead.specs.Meaning.{Swept, nothing_swept}
 use Rattle.fk_lead.specs.declared.finishing.Finish.{Finish}
 use Rattle.fk_lead.specs.declared.finishing.Finish.TheVariants as finish
-
-abbrev pub commit_by : ℕ → ℕ → Verdict → Op
-commit_by n tx verdict.Done = op.CommitOk n tx
-commit_by n tx (verdict.Settled settled) = op.CommitSettled n tx settled
-commit_by n tx (verdict.Passed path holder moment) = op.CommitLock n tx path holder moment
-commit_by n tx verdict.Failed = op.Fault n word.Commit
 
 -- what becomes of finishing a push in this table
 abbrev pub finish_of : Meaning → ℕ → Finish

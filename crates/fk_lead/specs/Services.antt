@@ -26,6 +26,7 @@ use Rattle.fk_wire.specs.declared.version.Version.TheVariants as version
 use Rattle.fk_spec.specs.Leader.{Stage}
 use Rattle.fk_spec.specs.Leader as stage
 use Rattle.fk_settle.specs.Transaction.{committed, transacted}
+use Rattle.fk_stand.specs.Messages.{done_tell}
 use Rattle.fk_lead.specs.Meaning.{Meaning, edits_of, touches_of}
 use Rattle.fk_lead.specs.Sweeping.{swept_at}
 
@@ -68,10 +69,6 @@ note_of m = record { tx = m.tx; fired = m.swept.fired }
 abbrev pub is_evict : Request → Bool
 is_evict (request.Close evict) = evict
 is_evict _ = false
-
--- what the push says of its result
-abbrev pub done_tell : ℕ → ℕ → Pushed → Tell
-done_tell k tx x = tell.Done k tx x.name x.version x.made
 
 -- the client is told that it was evicted, or that its request is done
 abbrev pub reply_tell : ℕ → Pushed → Tell
@@ -117,7 +114,10 @@ watches_after_step w m = stage_watches w m m.stage
 
 -- the store after a put that doesn't want memory
 abbrev pub put_at : PathNames → ℕ → ℕ → List Edit → user.Meaning → user.Meaning
-put_at path tx moment es u = if u.armed then user.called u else if nat_lt (u.records path).stamp tx then with_put u path tx moment es else u
+put_at path tx moment es u =
+    if u.armed then user.called u
+    else if nat_lt (u.records path).stamp tx then with_put u path tx moment es
+    else u
 
 -- the store after a publication that doesn't want memory
 abbrev pub published_at : ℕ → List ℕ → user.Meaning → user.Meaning

@@ -9,7 +9,7 @@ ghost use Rattle.fk_settle.specs.Transaction.{committed};
 ghost use Rattle.fk_lead.specs.Next.{GoesOn, GoesOnAfter};
 ghost use Rattle.fk_spec.specs.Failing.{or_fault};
 ghost use Rattle.fk_lead.specs.Operation.{commit_op, is_pending, pending_op};
-ghost use Rattle.fk_lead.specs.Said.{commit_by};
+ghost use Rattle.fk_settle.specs.Verdicts.{commit_by};
 ghost use Rattle.fk_lead.specs.Standing.{leader_of};
 
 use crate::leader::Leader;

@@ -4,12 +4,7 @@ use Rattle.fk_base.specs.Path.{PathNames}
 use Rattle.fk_store.specs.Locks.{is_held_by}
 use Rattle.fk_store.specs.Meaning.{Meaning, lock_of}
 use Rattle.fk_store.specs.declared.lock.Lock.{Lock}
-
--- a path whose lock passed on, with its last grant
-pub record Passed : Type 0 where
-  pub path : PathNames
-  pub holder : ℕ
-  pub moment : ℕ
+use Rattle.fk_spec.specs.Locks.{Passed}
 
 abbrev pub passed_on : PathNames → Lock → Passed
 passed_on p l = record { path = p; holder = l.inv; moment = l.moment }

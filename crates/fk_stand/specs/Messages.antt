@@ -7,6 +7,8 @@ use Rattle.fk_tree.specs.declared.request.Request.TheVariants as request
 use Rattle.fk_print.specs.declared.entry.Entry.{Entry}
 use Rattle.fk_print.specs.declared.op.Op.{Op}
 use Rattle.fk_print.specs.declared.op.Op.TheVariants as op
+use Rattle.fk_store.specs.declared.outcome.Outcome.{Outcome}
+use Rattle.fk_store.specs.declared.outcome.Outcome.TheVariants as kept
 use Rattle.fk_watch.specs.Notes.{fired_as, watch_tell}
 use Rattle.fk_wire.specs.declared.message.Note.{Note}
 use Rattle.fk_wire.specs.declared.message.Pushed.{Pushed}
@@ -15,7 +17,6 @@ use Rattle.fk_wire.specs.declared.message.Tell.{Tell}
 use Rattle.fk_wire.specs.declared.message.Tell.TheVariants as tell
 use Rattle.fk_spec.specs.Plan.{Plan}
 use Rattle.fk_spec.specs.Start.{Origin, clock_of, or_else, request_from, request_of, seen_from, sent_in}
-use Rattle.fk_spec.specs.Locks.{Loss}
 use Rattle.fk_spec.specs.Settling as settling
 use Rattle.fk_spec.specs.Stored.{owned_among}
 use Rattle.fk_spec.specs.Watches.{firing_of, swept_by}
@@ -23,6 +24,7 @@ use Rattle.fk_spec.specs.Lanes as lanes
 use Rattle.fk_spec.specs.Lanes.{posted_in}
 use Rattle.fk_spec.specs.Follower.{Follower, paths_of, view_of}
 use Rattle.fk_spec.specs.Function.{Place, Following, place_of}
+use Rattle.fk_stand.specs.Tables.{kept_as}
 
 -- ---- a session's lane
 
@@ -87,14 +89,16 @@ note_message p h _ = None
 abbrev pub done_tell : ℕ → ℕ → Pushed → Tell
 done_tell k tx x = tell.Done k tx x.name x.version x.made
 
-abbrev pub lost_tell : ℕ → Loss → Tell
-lost_tell k x = tell.Lost k x.path x.own x.found x.moment
-
 -- a follower's reply tells the outcome that was kept; a commit is told by a leader
+abbrev pub outcome_tell : ℕ → Outcome → Option Tell
+outcome_tell k kept.Nothing = None
+outcome_tell k (kept.Applied tx) = None
+outcome_tell k (kept.Refused code at place) = Some (tell.Refused k code at place)
+outcome_tell k (kept.Lost path own found moment) = Some (tell.Lost k path own found moment)
+
+-- the same of an outcome as the rules have it
 abbrev pub kept_tell : ℕ → settling.Outcome → Option Tell
-kept_tell k (settling.Committed tx) = None
-kept_tell k (settling.Refused code place at) = Some (tell.Refused k code at place)
-kept_tell k (settling.Passed loss) = option_map (lost_tell k) loss
+kept_tell k o = outcome_tell k (kept_as (Some o))
 
 abbrev pub tell_of : Plan → List Entry → lanes.Message → Option Tell
 tell_of p h (lanes.Done k tx) = option_map (done_tell k tx) (push_message_of p tx h)

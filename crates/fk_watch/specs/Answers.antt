@@ -61,8 +61,10 @@ pub record IsEpoch (fired : ℕ → Option Firing) (ids : List ℕ) : Type 0 whe
 -- Already exactly where the greatest swept transaction is this one or a later one; else Fired. Both with what
 -- the transaction fired and with the epoch after the call. Failed exactly where the table is armed.
 abbrev pub IsSweep : Watches → ℕ → List Touch → Sweep → Type 0
-IsSweep m tx ts (sweep.Fired fs ids) = (m.armed ≡ false) × (m.swept < tx) × AreFired tx (swept_for tx ts m).fired fs × IsEpoch (swept_for tx ts m).fired ids
-IsSweep m tx ts (sweep.Already s fs ids) = (m.armed ≡ false) × (tx ≤ m.swept) × (s ≡ m.swept) × AreFired tx m.fired fs × IsEpoch m.fired ids
+IsSweep m tx ts (sweep.Fired fs ids) =
+    (m.armed ≡ false) × (m.swept < tx) × AreFired tx (swept_for tx ts m).fired fs × IsEpoch (swept_for tx ts m).fired ids
+IsSweep m tx ts (sweep.Already s fs ids) =
+    (m.armed ≡ false) × (tx ≤ m.swept) × (s ≡ m.swept) × AreFired tx m.fired fs × IsEpoch m.fired ids
 IsSweep m tx ts sweep.Failed = m.armed ≡ true
 IsSweep m tx ts sweep.NoMemory = m.armed ≡ false
 

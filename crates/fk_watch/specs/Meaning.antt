@@ -18,7 +18,15 @@ pub record Watches : Type 0 where
 
 -- nothing was given, set, fired or swept
 abbrev pub new_watches : Watches
-new_watches = record { given = 0; set = λ n. None; fired = λ n. None; swept = 0; last = λ p. 0; armed = false; faults = 0 }
+new_watches = record {
+  given = 0;
+  set = λ n. None;
+  fired = λ n. None;
+  swept = 0;
+  last = λ p. 0;
+  armed = false;
+  faults = 0;
+}
 
 -- the next call fails
 abbrev pub armed : Watches → Watches

@@ -25,7 +25,8 @@ fired_among tx c ws ns n o = if has_id n ns then fired_by tx c (at n ws) o else 
 
 -- the watch with this number fires, if there is one, and the rest stays
 abbrev pub FiresNumber : ℕ → Change → ℕ → List (ℕ × Watch) → List (ℕ × Firing) → List (ℕ × Firing) → Type 0
-FiresNumber tx c number ws fs gs = (n : ℕ) → at n gs ≡ (if n == number then fired_by tx c (at n ws) (at n fs) else at n fs)
+FiresNumber tx c number ws fs gs = (n : ℕ)
+    → at n gs ≡ (if n == number then fired_by tx c (at n ws) (at n fs) else at n fs)
 
 -- the watches with these numbers fire, and the rest stays
 abbrev pub FiresAmong : ℕ → Change → List ℕ → List (ℕ × Watch) → List (ℕ × Firing) → List (ℕ × Firing) → Type 0
@@ -56,7 +57,8 @@ is_on k p (Some w) = same_path p w.path && same_kind k w.kind
 -- a set watch as a touch fires it, if it does; else what is there stays
 abbrev pub touched_by : ℕ → Touch → Option Watch → Option Firing → Option Firing
 touched_by tx t None o = o
-touched_by tx t (Some w) o = if same_path t.path w.path && takes w.kind t.change then Some (record { watch = w; tx = tx; change = t.change }) else o
+touched_by tx t (Some w) o =
+    if same_path t.path w.path && takes w.kind t.change then fired_by tx t.change (Some w) o else o
 
 -- no set watch has fired for another transaction
 abbrev pub IsClear : ℕ → List (ℕ × Watch) → List (ℕ × Firing) → Type 0

@@ -6,7 +6,8 @@ use Rattle.fk_watch.specs.Answers.{AreFired, IsEpoch}
 
 -- a transaction's fired watches are listed in one way
 abbrev pub AreOneList : Type 0
-AreOneList = (tx : ℕ) (fired : ℕ → Option Firing) (fs gs : List Fired) → AreFired tx fired fs → AreFired tx fired gs → fs ≡ gs
+AreOneList = (tx : ℕ) (fired : ℕ → Option Firing) (fs gs : List Fired)
+    → AreFired tx fired fs → AreFired tx fired gs → fs ≡ gs
 
 -- there is one epoch
 abbrev pub IsOneEpoch : Type 0

@@ -34,7 +34,8 @@ is_watch k p s w = same_kind k w.kind && (same_path p w.path && (s == w.session)
 -- the indexes have the numbers of the set watches and no others
 pub record IsIndexed (ws : List (ℕ × Watch)) (on_data on_child : Index) : Type 0 where
   pub there : (n : ℕ) (w : Watch) → at n ws ≡ Some w → numbered on_data on_child w.kind w.path w.session ≡ Some n
-  pub back : (k : Kind) (p : PathNames) (s n : ℕ) → numbered on_data on_child k p s ≡ Some n → at n ws ≡ Some (watch_on s p k)
+  pub back : (k : Kind) (p : PathNames) (s n : ℕ) → numbered on_data on_child k p s ≡ Some n
+      → at n ws ≡ Some (watch_on s p k)
 
 -- the number of a watch is this one, and the others stay
 abbrev pub SetsNumbered : Watch → Option ℕ → Index → Index → Index → Index → Type 0

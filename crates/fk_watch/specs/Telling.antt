@@ -29,7 +29,12 @@ pub record Meaning : Type 0 where
 
 -- a watch function that starts on a note
 abbrev pub started : ℕ → ℕ → Note → Meaning
-started inv number note = record { inv = inv; number = number; tx = note.tx; stage = to_tell (firings_as note.tx note.fired) }
+started inv number note = record {
+  inv = inv;
+  number = number;
+  tx = note.tx;
+  stage = to_tell (firings_as note.tx note.fired);
+}
 
 abbrev pub is_end : Stage → Bool
 is_end (stage.Tell firing others) = false
@@ -73,7 +78,8 @@ abbrev pub after_step : post.Meaning → Watches → Meaning → Meaning
 after_step q w m = next_with (step_op q w m) m
 
 abbrev pub stage_post : post.Meaning → Meaning → Stage → post.Meaning
-stage_post q m (stage.Tell firing others) = posted (lane.Inbox firing.watch.session) (tell_text version.Two (watch_tell firing)) q
+stage_post q m (stage.Tell firing others) =
+    posted (lane.Inbox firing.watch.session) (tell_text version.Two (watch_tell firing)) q
 stage_post q m stage.Told = q
 stage_post q m stage.Ack = after_ack q lane.Watch (ack_of q lane.Watch m.number)
 stage_post q m stage.Ended = q

@@ -1,7 +1,6 @@
 use Rattle.std.proofs.Common.{◌≡◌, ◌∙◌, ap, subst}
 use Rattle.std.specs.Prelude.{IfOk}
-use Rattle.fk_settle.specs.Verdicts.{verdict_of}
-use Rattle.fk_follow.specs.Said.{commit_by}
+use Rattle.fk_settle.specs.Verdicts.{commit_by, verdict_of}
 use Rattle.fk_follow.specs.Standing.{follower_of}
 use Rattle.fk_follow.proofs.Answering.{commit_said}
 use Rattle.fk_follow.proofs.follower.Follower.commit.Goals as goal

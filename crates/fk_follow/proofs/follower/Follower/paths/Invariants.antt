@@ -1,5 +1,5 @@
 use Rattle.std.proofs.Common.{◌≡◌, ◌++◌, drop}
-use Rattle.fk_follow.specs.Operation.{paths_of}
+use Rattle.fk_spec.specs.Follower.{paths_of}
 use Rattle.fk_follow.specs.Standing.{grants_of}
 use Rattle.fk_follow.proofs.follower.Follower.paths.Given as goal
 
