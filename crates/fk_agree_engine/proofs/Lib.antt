@@ -1,4 +1,5 @@
 pub mod Flights
+pub mod Goes
 pub mod Moves
 pub mod Plain
 pub mod Readable

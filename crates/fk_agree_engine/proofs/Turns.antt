@@ -284,7 +284,7 @@ fail_next p h w c r k i =
     ∙ turn_fails p c h w m.0 r.told (is_idle w.services.post m.0) refl k m.2 (subst (λ o. IsTold w.services r.told o) m.1 i)
 
 -- Services that are calm stay so when they are calmed.
-calm_world : (p : Plan) (e : Entry) (h : List Entry) (w : Meaning) → IsWorld p (e ∷ h) w → IsWorld p (e ∷ h) (record w { services = calmed (armed w.services) })
+pub calm_world : (p : Plan) (e : Entry) (h : List Entry) (w : Meaning) → IsWorld p (e ∷ h) w → IsWorld p (e ∷ h) (record w { services = calmed (armed w.services) })
 calm_world p e h w z = record {
   history = z.history;
   clock = z.clock;

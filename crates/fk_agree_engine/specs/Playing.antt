@@ -6,13 +6,11 @@ use Rattle.fk_print.specs.declared.event.Event.TheVariants as event
 use Rattle.fk_wire.specs.Limits.{IsNumber}
 use Rattle.fk_spec.specs.Plan.{Plan}
 use Rattle.fk_spec.specs.Next.{names_client, next_entry}
-use Rattle.fk_engine.specs.declared.times.Times.{Times}
 use Rattle.fk_engine.specs.Engine.{made}
 use Rattle.fk_engine.specs.Events.{after_event}
 use Rattle.fk_engine.specs.Fit.{FitsEvent, IsReadAt}
-use Rattle.fk_engine.specs.Machines as machine
-use Rattle.fk_engine.specs.Machines.{IsReadable}
 use Rattle.fk_engine.specs.Parts.{Meaning}
+use Rattle.fk_engine.specs.Playing.{SendsReadable}
 use Rattle.fk_engine.specs.Reads.{Read}
 use Rattle.fk_agree_engine.specs.World.{IsWithinLimits, IsWorld}
 
@@ -28,15 +26,6 @@ pub record CanPlay (p : Plan) (h : List Entry) (w : Meaning) (e : Event) : Type 
   pub short : length h < 2 ^ 62
   pub named : names_client p e ≡ true
   pub moment : IsMoment e
-
-abbrev pub CanBeRead : Times → Option machine.Meaning → Type 0
-CanBeRead t None = ⊤
-CanBeRead t (Some m) = IsReadable t m
-
--- what the function of a step sends can be read
-abbrev pub SendsReadable : Meaning → Event → Type 0
-SendsReadable w (event.Step n) = CanBeRead w.times (w.functions.running n)
-SendsReadable w _ = ⊤
 
 -- What the event needs holds.
 abbrev pub EventIsFit : Type 0
