@@ -103,10 +103,12 @@ told_commit p c k tx h x l i m =
 
 -- a command that awaits it was sent with its request
 told_of : (p : Plan) (c k tx : ℕ) (h : List Entry) (x : Pushed) (i : ℕ) → IsToldCommit p c k tx h x → request_of p c k h ≡ written (nth (asks_in p c) i) → TellsItsCommit p h (nth (asks_in p c) i) (outcome.Done tx x.name x.version x.made)
-told_of p c k tx h x i t q =
-    (t.applied, t.committed,
-    commit_shows (nth (asks_in p c) i) t.applied.request tx x.version x.name x.made (sym q ∙ t.request)
-    ∙ subst (λ a. shown_reply tx (reply_told x.name x.version x.made a.request) ≡ shown_reply tx (reply_of a)) t.is (ap (shown_reply tx) (replies_to (applied_as tx x) x.request)))
+told_of p c k tx h x i t q = (
+  t.applied,
+  t.committed,
+  commit_shows (nth (asks_in p c) i) t.applied.request tx x.version x.name x.made (sym q ∙ t.request)
+      ∙ subst (λ a. shown_reply tx (reply_told x.name x.version x.made a.request) ≡ shown_reply tx (reply_of a)) t.is (ap (shown_reply tx) (replies_to (applied_as tx x) x.request)),
+)
 
 -- Each command that awaits what is told. -----------------------------------------------------------------
 
@@ -139,9 +141,10 @@ awaited k s e = let b = and_left (s.k == k) (is_open (known s.outcome)) e in gri
 
 tracked_would : (p : Plan) (c k tx : ℕ) (h : List Entry) (x : Pushed) (ss : List Unanswered) (n last begun top : ℕ) → IsToldCommit p c k tx h x → AreTracked p c h n last (all_known ss) begun top → WouldTell p h (asks_in p c) k (outcome.Done tx x.name x.version x.made) ss
 tracked_would p c k tx h x [] n last begun top t z = tt
-tracked_would p c k tx h x (s ∷ ss) n last begun top t z =
-    (λ e. told_of p c k tx h x s.command t (sent_so p c last k h (record { command = s.command; k = s.k; result = known s.outcome }) t.first (awaited k s e) z.1),
-    tracked_would p c k tx h x ss (n + 1) (later last s.k) begun top t z.3)
+tracked_would p c k tx h x (s ∷ ss) n last begun top t z = (
+  λ e. told_of p c k tx h x s.command t (sent_so p c last k h (record { command = s.command; k = s.k; result = known s.outcome }) t.first (awaited k s e) z.1),
+  tracked_would p c k tx h x ss (n + 1) (later last s.k) begun top t z.3,
+)
 
 done_would : (p : Plan) (c k tx : ℕ) (h : List Entry) (x : Pushed) (y : Client Unanswered) → ReadsAreReads p → IsHistory p h → client_known y ≡ client_of p c h → IsToldCommit p c k tx h x → WouldTell p h (asks_in p c) k (outcome.Done tx x.name x.version x.made) y.sent
 done_would p c k tx h x y v l q t =

@@ -41,9 +41,10 @@ all_said : (p : Plan) (e : Entry) (h : List Entry) (xs : List Letter) (ms : List
 all_said p e h [] [] l s k = tt
 all_said p e h [] (m ∷ ms) l s k = absurd s
 all_said p e h (x ∷ xs) [] l s k = absurd s
-all_said p e h (x ∷ xs) (m ∷ ms) l s k =
-    ((λ t q. subst IsTell (some_same s.0.tell t (sym (tell_stays p e h m s.0.tell l s.0.told) ∙ q)) (k.0 s.0.tell s.0.told)),
-    all_said p e h xs ms l s.1 k.1)
+all_said p e h (x ∷ xs) (m ∷ ms) l s k = (
+  (λ t q. subst IsTell (some_same s.0.tell t (sym (tell_stays p e h m s.0.tell l s.0.told) ∙ q)) (k.0 s.0.tell s.0.told)),
+  all_said p e h xs ms l s.1 k.1,
+)
 
 one_more_said : (p : Plan) (h : List Entry) (ms : List Message) (m : Message) → CanBeSaid p h ms → ((t : Tell) → tell_of p h m ≡ Some t → IsTell t) → CanBeSaid p h (ms ++ m ∷ [])
 one_more_said p h [] m k f = (f, tt)
