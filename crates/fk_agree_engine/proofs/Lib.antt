@@ -1,3 +1,4 @@
+pub mod Fits
 pub mod Flights
 pub mod Goes
 pub mod Moves
