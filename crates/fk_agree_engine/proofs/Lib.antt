@@ -1,3 +1,4 @@
+pub mod Asks
 pub mod Flights
 pub mod Goes
 pub mod Moves
