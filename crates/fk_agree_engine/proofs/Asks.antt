@@ -9,8 +9,7 @@ use Rattle.fk_print.specs.declared.entry.Entry.{Entry}
 use Rattle.fk_print.specs.declared.event.Event.TheVariants as event
 use Rattle.fk_print.specs.declared.op.Op.{Op}
 use Rattle.fk_print.specs.declared.op.Op.TheVariants as op
-use Rattle.fk_queue.specs.Lanes.{is_lane, is_session}
-use Rattle.fk_queue.specs.declared.lane.Lane.TheVariants as lane
+use Rattle.fk_queue.specs.Lanes.{is_session}
 use Rattle.fk_spec.specs.Plan.{Plan, Ask, is_client, item_after, nth}
 use Rattle.fk_spec.specs.Start.{or_else, starts_of}
 use Rattle.fk_spec.specs.Function.{Absent, Beating, Following, Leading, Place, Telling, actor, fault_op, function_op, in_flight, in_flight_to, is_absent, place_of}
