@@ -10,9 +10,7 @@ use Rattle.fk_script.specs.Reading.{Means, Offends, deployment_of}
 use Rattle.fk_script.specs.Reasons.{why_text}
 use Rattle.fk_script.specs.declared.deployment.Deployment.{Deployment}
 use Rattle.fk_script.specs.declared.why.Why.{Why}
-use Rattle.fk_play.specs.Built.{is_built}
-use Rattle.fk_play.specs.Run.{IsRunOf}
-use Rattle.fk_run.specs.Run.{client_names}
+use Rattle.fk_run.specs.Run.{IsRunOf, client_names}
 
 abbrev pub is_status : ℕ → Bool
 is_status status = list_any (λ s. s == status) (0 ∷ 64 ∷ 65 ∷ 66 ∷ 71 ∷ 74 ∷ [])
@@ -27,9 +25,6 @@ too_long_line = codes "bad TooLong\n"
 -- the number of a line, and the reason for which it offends
 abbrev pub bad_line : ℕ → Why → List ℕ
 bad_line line why = codes "bad " ++ decimal line ++ codes " " ++ why_text why ++ codes "\n"
-
-abbrev pub unbuilt_line : List ℕ
-unbuilt_line = codes "bad Unbuilt\n"
 
 -- These bytes were taken, and none are left.
 pub record TakesAll (old new : Option (List ℕ)) (input : List ℕ) : Type 0 where
@@ -48,29 +43,18 @@ pub record RefusesLine (input : List ℕ) (sink sink_after : Option (List ℕ)) 
   pub offends : deployment_of input ≡ Offends line why
   pub written : Appends sink sink_after (bad_line line why)
 
--- The input means a deployment that doesn't run so far, and the line that says so was written.
-pub record RefusesForm (input : List ℕ) (sink sink_after : Option (List ℕ)) : Type 0 where
-  pub deployment : Deployment
-  pub meant : deployment_of input ≡ Means deployment
-  pub unbuilt : is_built deployment ≡ false
-  pub written : Appends sink sink_after unbuilt_line
-
-abbrev pub RefusesInput : List ℕ → Option (List ℕ) → Option (List ℕ) → Type 0
-RefusesInput input sink sink_after = RefusesLine input sink sink_after ⊎ RefusesForm input sink sink_after
-
 -- The whole input was read, and is refused.
 pub record RefusesRead (source source_after sink sink_after : Option (List ℕ)) : Type 0 where
   pub input : List ℕ
   pub read : TakesAll source source_after input
-  pub refused : RefusesInput input sink sink_after
+  pub refused : RefusesLine input sink sink_after
 
 -- status 65
 abbrev pub Refuses : Option (List ℕ) → Option (List ℕ) → Option (List ℕ) → Option (List ℕ) → Type 0
 Refuses source source_after sink sink_after = RefusesLength source source_after sink sink_after ⊎ RefusesRead source source_after sink sink_after
 
--- The deployment runs, and the text of a run of it was written.
+-- The text of a run of the deployment was written.
 pub record WritesRunOf (deployment : Deployment) (sink sink_after : Option (List ℕ)) : Type 0 where
-  pub built : is_built deployment ≡ true
   pub history : List Entry
   pub ran : IsRunOf deployment history
   pub written : Appends sink sink_after (history_text (client_names deployment) history)

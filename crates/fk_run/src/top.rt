@@ -2,15 +2,14 @@ ghost use Rattle.std.specs.Prelude.{◌≡◌, ◌≢◌, ◌≤◌, ◌↔◌, 
 ghost use Rattle.std.specs.Io.KnownBytes.{Appends};
 ghost use Rattle.fk_base.specs.Faults.{Rose};
 ghost use Rattle.fk_print.specs.EntryText.{history_text};
-ghost use Rattle.fk_play.specs.Built.{is_built};
-ghost use Rattle.fk_script.specs.Values.{most_time};
+ghost use Rattle.fk_script.specs.PrintLaws.{IsMeant};
 ghost use Rattle.fk_run.specs.Run.{client_names};
-ghost use Rattle.fk_run.specs.Statuses.{Refuses, RefusesInput, Runs, WritesRun, WritesRunOf, is_status, unbuilt_line};
+ghost use Rattle.fk_run.specs.Statuses.{Refuses, RefusesLine, Runs, WritesRun, WritesRunOf, is_status};
 
+use crate::play::play;
 use crate::status::{NO_MEMORY, READ_FAULT, USAGE};
 use crate::write::{refuse, refuse_line, write_history};
 use fk_base::{Names, NoMemory, ReadAll, Sink, Source, read_all};
-use fk_play::play;
 use fk_print::History;
 use fk_script::{Deployment, ScriptFault, read_script};
 use std::alloc::Global;
@@ -18,8 +17,7 @@ use std::alloc::Global;
 /// Reads a deployment to its end, plays it and writes the history; the answer is an exit status.
 ///
 /// The statuses, the first that fits: 64 words on the command line, 66 a read fault, 65 an input that
-/// is too long, has a line that offends, or can't be played yet, 74 a write fault, 71 want of memory,
-/// 0 else.
+/// is too long or has a line that offends, 74 a write fault, 71 want of memory, 0 else.
 pub fn fk_run<S: Source, K: Sink>(
     alloc: Global,
     words: &[String],
@@ -53,32 +51,29 @@ pub fn fk_run<S: Source, K: Sink>(
 
 /// Writes a run of the deployment that the bytes mean, or why there is none.
 fn answer<K: Sink>(alloc: Global, input: &[u8], sink: &mut K) -> u8
-    ensures refused { result ≡ 65 → RefusesInput input.now (K.taken sink.old) (K.taken sink.new) }
+    ensures refused { result ≡ 65 → RefusesLine input.now (K.taken sink.old) (K.taken sink.new) }
     ensures ran { result ≡ 0 → WritesRun input.now (K.taken sink.old) (K.taken sink.new) }
     ensures fault { result ≡ 74 → Rose (K.faults sink.old) (K.faults sink.new) }
     ensures statuses { (result ≡ 0) ⊎ (result ≡ 65) ⊎ (result ≡ 71) ⊎ (result ≡ 74) }
     ensures later { K.faults sink.old ≤ K.faults sink.new }
 {
     match read_script(alloc, input) {
-        Ok(deployment) => run(alloc, &deployment, sink),
+        Ok(deployment) => run(alloc, deployment, sink),
         Err(ScriptFault::Bad(line, why)) => refuse_line(alloc, line, why, sink),
         Err(ScriptFault::NoMemory) => NO_MEMORY,
     }
 }
 
-/// Writes a run of the deployment, or that its form doesn't run yet.
-fn run<K: Sink>(alloc: Global, deployment: &Deployment, sink: &mut K) -> u8
-    requires { deployment.now.config.lock ≤ most_time }
-    ensures unbuilt { result ≡ 65 → is_built deployment.now ≡ false }
-    ensures refused { result ≡ 65 → Appends (K.taken sink.old) (K.taken sink.new) unbuilt_line }
-    ensures ran { result ≡ 0 → WritesRunOf deployment.now (K.taken sink.old) (K.taken sink.new) }
+/// Plays the deployment and writes its run.
+fn run<K: Sink>(alloc: Global, deployment: Deployment, sink: &mut K) -> u8
+    requires meant { IsMeant deployment }
+    ensures ran { result ≡ 0 → WritesRunOf deployment (K.taken sink.old) (K.taken sink.new) }
     ensures fault { result ≡ 74 → Rose (K.faults sink.old) (K.faults sink.new) }
-    ensures statuses { (result ≡ 0) ⊎ (result ≡ 65) ⊎ (result ≡ 71) ⊎ (result ≡ 74) }
+    ensures statuses { (result ≡ 0) ⊎ (result ≡ 71) ⊎ (result ≡ 74) }
     ensures later { K.faults sink.old ≤ K.faults sink.new }
 {
     match play(alloc, deployment) {
-        Ok(Some(history)) => write_run(alloc, deployment, &history, sink),
-        Ok(None) => refuse("bad Unbuilt\n", sink),
+        Ok(world) => write_run(alloc, world.deployment(), world.history(), sink),
         Err(NoMemory) => NO_MEMORY,
     }
 }

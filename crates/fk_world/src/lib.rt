@@ -1,0 +1,7 @@
+//! Stub.
+#![tactic(auto)]
+
+mod draining;
+mod world;
+
+pub use world::World;
