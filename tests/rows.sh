@@ -1,7 +1,7 @@
 #!/usr/bin/env bash
 # Runs the built program over the case files in tests/cases: NAME.in on standard input, NAME.args as its
 # words, one a line (none without the file), against NAME.out and the status in NAME.status (0 without it).
-# Then over the examples, and over inputs that are too large to keep as files.
+# Then over the examples, against tests/examples, and over inputs that are too large to keep as files.
 set -u
 cd "$(dirname "$0")/.." || exit 1
 program=crates/fkrun/out/fkrun
@@ -46,15 +46,9 @@ for input in tests/cases/*.in; do
   check "${name##*/}" "$input" "$name.out" "$wanted" ${words[@]+"${words[@]}"}
 done
 
-# Each example has no line that offends: it is played, or its form isn't built yet.
-echo "bad Unbuilt" > "$scratch/unbuilt"
 for example in examples/*.fk; do
-  if "$program" < "$example" > "$scratch/got" || cmp -s "$scratch/got" "$scratch/unbuilt"; then
-    passed=$((passed + 1))
-  else
-    failed=$((failed + 1))
-    echo "failed: $example ($(head -n 1 "$scratch/got"))"
-  fi
+  name=${example##*/}
+  check "$example" "$example" "tests/examples/${name%.fk}.out" 0
 done
 
 # bytes NUMBER OCTAL: so many bytes of this value
@@ -69,7 +63,8 @@ check_line comment-of-4194305-bytes 65 "bad TooLong"
 bytes 4194305 377 > "$scratch/input"
 check_line too-many-bytes-that-are-not-utf8 65 "bad TooLong"
 { echo schedule; yes drain | head -n 65536; } > "$scratch/input"
-check_line turn-65536 65 "bad Unbuilt"
+awk 'BEGIN { for (k = 1; k <= 65537; k++) printf "> clock %d\n. clock %d\n", 11 * k, 11 * k }' > "$scratch/wanted"
+check turn-65536 "$scratch/input" "$scratch/wanted" 0
 echo drain >> "$scratch/input"
 check_line turn-65537 65 "bad 65538 TooMany"
 

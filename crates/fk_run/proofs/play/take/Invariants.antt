@@ -5,11 +5,11 @@ use Rattle.fk_run.specs.Turns.{AreFit, Takes}
 use Rattle.fk_run.proofs.play.take.Given as goal
 
 abbrev pub invariant-taking : goal.invariant-taking
-invariant-taking l = record {
+invariant-taking g l = record {
   same : l.world.deployment ≡ l.fn.world.deployment;
   fit : AreFit (plan_of l.fn.world.deployment) l.rest;
   goes : (k : List Entry) → Takes (plan_of l.fn.world.deployment) l.rest l.world.past k → Takes (plan_of l.fn.world.deployment) l.fn.turns l.fn.world.past k;
 }
 
 abbrev pub decreases-taking : goal.decreases-taking
-decreases-taking l = length l.rest
+decreases-taking g l = length l.rest

@@ -1,5 +1,0 @@
-use Rattle.std.proofs.Common.{length}
-use Rattle.fk_play.proofs.table.+contains.Given as goal
-
-abbrev pub decreases-contains : goal.decreases-contains
-decreases-contains l = length l.numbers.now
