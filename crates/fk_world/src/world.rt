@@ -1,9 +1,11 @@
 //! The world.
 
-ghost use Rattle.std.specs.Prelude.{◌≡◌, ◌<◌, ◌^◌, ◌∷◌, [], length, true, false, IfOk, OnOk, OnErr};
+ghost use Rattle.std.specs.Prelude.{◌≡◌, ◌<◌, ◌^◌, ◌∷◌, [], length, not, true, false, IfOk, OnOk, OnErr};
 ghost use Rattle.fk_agree_engine.specs.Playing.{IsMoment};
 ghost use Rattle.fk_script.specs.PrintLaws.{IsMeant};
-ghost use Rattle.fk_spec.specs.Next.{IsHistory, names_client, next_entry};
+ghost use Rattle.fk_spec.specs.Next.{IsHistory, names_client, next_entry, next_op};
+ghost use Rattle.fk_spec.specs.Function.{in_flight};
+ghost use Rattle.fk_spec.specs.Schedule.{is_idle, next_of_drain};
 ghost use Rattle.fk_spec.specs.Plan.{plan_of};
 ghost use Rattle.fk_spec.specs.Start.{clock_of};
 ghost use Rattle.fk_store.specs.Meaning.{new_table};
@@ -15,7 +17,7 @@ ghost use Rattle.fk_user.specs.Stored.{store_of};
 ghost use Rattle.fk_watch.specs.Kept.{watches_of};
 
 use crate::making::clients_of;
-use fk_base::{Config, NoMemory};
+use fk_base::{Config, NoMemory, Numbers};
 use fk_engine::Engine;
 use fk_print::{Event, History};
 use fk_queue::Post;
@@ -29,6 +31,7 @@ use std::marker::Model;
 /// A deployment, and the engine that plays it.
 #[derive(Drop)]
 pub struct World<T: Table> {
+    alloc: Global,
     deployment: Deployment,
     engine: Engine<T>,
 }
@@ -56,7 +59,11 @@ impl<T: Table> World<T> {
         let clients = clients_of(alloc, deployment.clients.as_slice())?;
         let Config { lock, beat } = deployment.config;
         let engine = Engine::new(alloc, lock, beat, clients, table)?;
-        Ok(World { deployment, engine })
+        Ok(World {
+            alloc,
+            deployment,
+            engine,
+        })
     }
 
     /// Makes the operation of an event, and adds its entry. After `NoMemory` the past is as before,
@@ -74,6 +81,50 @@ impl<T: Table> World<T> {
         ensures deployment { self.new.deployment ≡ self.old.deployment }
     {
         self.engine.apply_event(event)
+    }
+
+    /// What a drain does next, once it began.
+    pub fn next_of_drain(&self) -> Option<Event>
+        requires { self.now.spent ≡ false }
+        ensures { result ≡ next_of_drain (plan_of self.now.deployment) self.now.past }
+    {
+        self.engine.next_of_drain()
+    }
+
+    /// The numbers of the functions in flight, from the least on.
+    pub fn in_flight(&self) -> &[u64]
+        requires { self.now.spent ≡ false }
+        ensures { result.now ≡ in_flight (plan_of self.now.deployment) self.now.past }
+    {
+        self.engine.in_flight()
+    }
+
+    /// Whether an event would make an operation.
+    pub fn ready(&self, event: &Event) -> bool
+        requires unspent { self.now.spent ≡ false }
+        requires named { names_client (plan_of self.now.deployment) event.now ≡ true }
+        ensures { result ≡ not (is_idle (next_op (plan_of self.now.deployment) self.now.past
+            event.now)) }
+    {
+        self.engine.ready(event)
+    }
+
+    /// The numbers of the functions in flight. Where there is no memory for them the world is spent.
+    pub(crate) fn flight(&mut self) -> Result<Numbers, NoMemory>
+        requires { self.old.spent ≡ false }
+        ensures numbers { IfOk result (λ ns. ns
+            ≡ in_flight (plan_of self.old.deployment) self.old.past) }
+        ensures same { OnOk result (self.new ≡ self.old) }
+        ensures spent { OnErr result (self.new.spent ≡ true) }
+        ensures deployment { self.new.deployment ≡ self.old.deployment }
+    {
+        match Numbers::from_slice(self.alloc, self.engine.in_flight()) {
+            Ok(numbers) => Ok(numbers),
+            Err(NoMemory) => {
+                self.engine.spend();
+                Err(NoMemory)
+            }
+        }
     }
 
     /// What happened so far.
