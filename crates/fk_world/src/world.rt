@@ -1,0 +1,191 @@
+//! The world.
+
+ghost use Rattle.std.specs.Prelude.{◌≡◌, ◌<◌, ◌^◌, ◌∷◌, [], length, not, true, false, IfOk, OnOk, OnErr};
+ghost use Rattle.fk_agree_engine.specs.Playing.{IsMoment};
+ghost use Rattle.fk_script.specs.PrintLaws.{IsMeant};
+ghost use Rattle.fk_spec.specs.Next.{IsHistory, names_client, next_entry, next_op};
+ghost use Rattle.fk_spec.specs.Function.{in_flight};
+ghost use Rattle.fk_spec.specs.Schedule.{is_idle, next_of_drain};
+ghost use Rattle.fk_spec.specs.Plan.{plan_of};
+ghost use Rattle.fk_spec.specs.Start.{clock_of};
+ghost use Rattle.fk_store.specs.Meaning.{new_table};
+ghost use Rattle.fk_stand.specs.Posts.{post_after};
+ghost use Rattle.fk_stand.specs.Stores.{store_after, watches_after};
+ghost use Rattle.fk_stand.specs.Tables.{table_after};
+ghost use Rattle.fk_queue.specs.Posts.{post_of};
+ghost use Rattle.fk_user.specs.Stored.{store_of};
+ghost use Rattle.fk_watch.specs.Kept.{watches_of};
+
+use crate::making::clients_of;
+use fk_base::{Config, NoMemory, Numbers};
+use fk_engine::Engine;
+use fk_print::{Event, History};
+use fk_queue::Post;
+use fk_script::Deployment;
+use fk_store::Table;
+use fk_user::UserStore;
+use fk_watch::WatchTable;
+use std::alloc::Global;
+use std::marker::Model;
+
+/// A deployment, and the engine that plays it.
+#[derive(Drop)]
+pub struct World<T: Table> {
+    alloc: Global,
+    deployment: Deployment,
+    engine: Engine<T>,
+}
+
+impl<T: Table> Model for World<T> {
+    ghost use Rattle.fk_engine.specs.Engine.{engine_of};
+    ghost use Rattle.fk_world.specs.World.{IsSound, View};
+
+    ghost Value = { View };
+
+    ghost view = { λ w. record { deployment = w.deployment; past = w.engine.past; spent = w.engine.spent } };
+
+    ghost invariant = { λ w. IsSound w.deployment (engine_of T.meaning w.engine) };
+}
+
+impl<T: Table> World<T> {
+    /// A new world, of a deployment that some bytes mean and a new table.
+    pub fn new(alloc: Global, deployment: Deployment, table: T) -> Result<World<T>, NoMemory>
+        requires meant { IsMeant deployment }
+        requires table { T.meaning table ≡ new_table (length (plan_of deployment).asks) }
+        ensures deployment { IfOk result (λ w. w.deployment ≡ deployment) }
+        ensures past { IfOk result (λ w. w.past ≡ []) }
+        ensures spent { IfOk result (λ w. w.spent ≡ false) }
+    {
+        let clients = clients_of(alloc, deployment.clients.as_slice())?;
+        let Config { lock, beat } = deployment.config;
+        let engine = Engine::new(alloc, lock, beat, clients, table)?;
+        Ok(World {
+            alloc,
+            deployment,
+            engine,
+        })
+    }
+
+    /// Makes the operation of an event, and adds its entry. After `NoMemory` the past is as before,
+    /// and the world is spent: it answers `NoMemory` from then on.
+    pub fn apply_event(&mut self, event: &Event) -> Result<(), NoMemory>
+        requires named { names_client (plan_of self.old.deployment) event.now ≡ true }
+        requires moment { IsMoment event.now }
+        ensures next { OnOk result (self.new.past
+            ≡ next_entry (plan_of self.old.deployment) self.old.past event.now ∷ self.old.past) }
+        ensures going { OnOk result (self.new.spent ≡ false) }
+        ensures unspent { OnOk result (self.old.spent ≡ false) }
+        ensures room { OnOk result (length self.old.past < 2 ^ 62) }
+        ensures past { OnErr result (self.new.past ≡ self.old.past) }
+        ensures spent { OnErr result (self.new.spent ≡ true) }
+        ensures deployment { self.new.deployment ≡ self.old.deployment }
+    {
+        self.engine.apply_event(event)
+    }
+
+    /// What a drain does next, once it began.
+    pub fn next_of_drain(&self) -> Option<Event>
+        requires { self.now.spent ≡ false }
+        ensures { result ≡ next_of_drain (plan_of self.now.deployment) self.now.past }
+    {
+        self.engine.next_of_drain()
+    }
+
+    /// The numbers of the functions in flight, from the least on.
+    pub fn in_flight(&self) -> &[u64]
+        requires { self.now.spent ≡ false }
+        ensures { result.now ≡ in_flight (plan_of self.now.deployment) self.now.past }
+    {
+        self.engine.in_flight()
+    }
+
+    /// Whether an event would make an operation.
+    pub fn ready(&self, event: &Event) -> bool
+        requires unspent { self.now.spent ≡ false }
+        requires named { names_client (plan_of self.now.deployment) event.now ≡ true }
+        ensures { result ≡ not (is_idle (next_op (plan_of self.now.deployment) self.now.past
+            event.now)) }
+    {
+        self.engine.ready(event)
+    }
+
+    /// The numbers of the functions in flight. Where there is no memory for them the world is spent.
+    pub(crate) fn flight(&mut self) -> Result<Numbers, NoMemory>
+        requires { self.old.spent ≡ false }
+        ensures numbers { IfOk result (λ ns. ns
+            ≡ in_flight (plan_of self.old.deployment) self.old.past) }
+        ensures same { OnOk result (self.new ≡ self.old) }
+        ensures spent { OnErr result (self.new.spent ≡ true) }
+        ensures deployment { self.new.deployment ≡ self.old.deployment }
+    {
+        match Numbers::from_slice(self.alloc, self.engine.in_flight()) {
+            Ok(numbers) => Ok(numbers),
+            Err(NoMemory) => {
+                self.engine.spend();
+                Err(NoMemory)
+            }
+        }
+    }
+
+    /// What happened so far.
+    pub fn history(&self) -> &History
+        ensures past { result.now ≡ self.now.past }
+        ensures lawful { IsHistory (plan_of self.now.deployment) result.now }
+    {
+        self.engine.history()
+    }
+
+    /// The deployment that is played.
+    pub fn deployment(&self) -> &Deployment
+        ensures same { result.now ≡ self.now.deployment }
+        ensures meant { IsMeant result.now }
+    {
+        &self.deployment
+    }
+
+    /// Whether there was no memory for an event.
+    pub fn spent(&self) -> bool
+        ensures { result ≡ self.now.spent }
+    {
+        self.engine.spent()
+    }
+
+    /// What the clock shows.
+    pub fn clock(&self) -> u64
+        ensures { self.now.spent ≡ false → result ≡ clock_of self.now.past }
+    {
+        self.engine.clock()
+    }
+
+    /// The conditional table.
+    pub fn table(&self) -> &T
+        ensures { self.now.spent ≡ false → T.meaning result.now ≡ table_after
+            (plan_of self.now.deployment) self.now.past (T.meaning result.now).faults }
+    {
+        self.engine.table()
+    }
+
+    /// The queues.
+    pub fn post(&self) -> &Post
+        ensures { self.now.spent ≡ false → post_of result.now ≡ post_after
+            (plan_of self.now.deployment) self.now.past (post_of result.now).faults }
+    {
+        self.engine.post()
+    }
+
+    /// The user storage.
+    pub fn user(&self) -> &UserStore
+        ensures { self.now.spent ≡ false → store_of result.now ≡ store_after
+            (plan_of self.now.deployment) self.now.past (store_of result.now).faults }
+    {
+        self.engine.user()
+    }
+
+    /// The table of watches.
+    pub fn watches(&self) -> &WatchTable
+        ensures { self.now.spent ≡ false → watches_of result.now ≡ watches_after
+            (plan_of self.now.deployment) self.now.past (watches_of result.now).faults }
+    {
+        self.engine.watches()
+    }
+}
