@@ -131,7 +131,7 @@ flies p n h w (Some m) x s =
     within : 1 ≤ n → n ≤ starts_of h → (nat_le 1 n && nat_le n (starts_of h) && true) ≡ true
     within a b = grind (arith, nat_tests)
 
-are_in_flight : (p : Plan) (h : List Entry) (w : Meaning) → IsWorld p h w → AreInFlight w.functions (in_flight p h)
+pub are_in_flight : (p : Plan) (h : List Entry) (w : Meaning) → IsWorld p h w → AreInFlight w.functions (in_flight p h)
 are_in_flight p h w x = record {
   rising = all_rise p (starts_of h) h;
   exact = λ n. all_exact p n (starts_of h) h ∙ flies p n h w (w.functions.running n) x (x.functions.running n);
@@ -142,7 +142,7 @@ flight_is_the_rules p h w ns x a = one_list w.functions ns (in_flight p h) a (ar
 
 -- What a drain does next. --------------------------------------------------------------------------------
 
-is_within : (p : Plan) (c : ℕ) → 1 ≤ c → c ≤ length p.asks → is_client p c ≡ true
+pub is_within : (p : Plan) (c : ℕ) → 1 ≤ c → c ≤ length p.asks → is_client p c ≡ true
 is_within p c a b = within (length p.asks) b
   where
     within : (k : ℕ) → c ≤ k → (nat_le 1 c && nat_le c k) ≡ true

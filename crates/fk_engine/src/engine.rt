@@ -106,6 +106,14 @@ impl<T: Table> Engine<T> {
         Ok(())
     }
 
+    /// From now on there is no memory for an event.
+    pub fn spend(&mut self)
+        ensures past { (engine_of T.meaning self.new).past ≡ (engine_of T.meaning self.old).past }
+        ensures spent { (engine_of T.meaning self.new).spent ≡ true }
+    {
+        self.spent = true;
+    }
+
     /// What a drain does next, once it began.
     pub fn next_of_drain(&self) -> Option<Event>
         requires { FitsDrain (engine_of T.meaning self.now).parts }
