@@ -1,5 +1,5 @@
 -- A deployment's turns, played one after another.
-use Rattle.std.specs.Prelude.{◌≡◌, ℕ, true, ⊤, List, [], ◌∷◌}
+use Rattle.std.specs.Prelude.{◌≡◌, true, ⊤, List, [], ◌∷◌}
 use Rattle.fk_print.specs.declared.entry.Entry.{Entry}
 use Rattle.fk_script.specs.declared.deployment.Turn.{Turn}
 use Rattle.fk_script.specs.declared.deployment.Turn.TheVariants as turn
