@@ -158,16 +158,16 @@ delivers p h w (m ∷ ms) (y ∷ ys) c x l a b =
     λ j. or_else (deliver_where c ((session_head_is p c h w x i) j)) (rest j)
 
 -- these are the clients from c on
-abbrev AreFrom : Plan → ℕ → List Entry → List client.Meaning → Type 0
+abbrev pub AreFrom : Plan → ℕ → List Entry → List client.Meaning → Type 0
 AreFrom p c h ms = (i : ℕ) (m : client.Meaning) → item_after ms i ≡ Some m → IsClient p (c + i) h m
 
-first_of : (p : Plan) (c : ℕ) (h : List Entry) (m : client.Meaning) (ms : List client.Meaning) → AreFrom p c h (m ∷ ms) → IsClient p c h m
+pub first_of : (p : Plan) (c : ℕ) (h : List Entry) (m : client.Meaning) (ms : List client.Meaning) → AreFrom p c h (m ∷ ms) → IsClient p c h m
 first_of p c h m ms f = subst (λ z. IsClient p z h m) (omega arith) (f 0 m refl)
 
-rest_of : (p : Plan) (c : ℕ) (h : List Entry) (m : client.Meaning) (ms : List client.Meaning) → AreFrom p c h (m ∷ ms) → AreFrom p (suc c) h ms
+pub rest_of : (p : Plan) (c : ℕ) (h : List Entry) (m : client.Meaning) (ms : List client.Meaning) → AreFrom p c h (m ∷ ms) → AreFrom p (suc c) h ms
 rest_of p c h m ms f i n q = subst (λ z. IsClient p z h n) (omega arith) (f (suc i) n q)
 
-all_clients : (p : Plan) (h : List Entry) (w : Meaning) → IsWorld p h w → AreFrom p 1 h w.clients
+pub all_clients : (p : Plan) (h : List Entry) (w : Meaning) → IsWorld p h w → AreFrom p 1 h w.clients
 all_clients p h w x i m q = subst (λ z. IsClient p z h m) (omega arith) (x.clients.each (suc i) m q)
 
 turns : (p : Plan) (h : List Entry) (w : Meaning) (ms : List client.Meaning) (xs : List (List Ask)) (c : ℕ) → IsWorld p h w → AreFrom p c h ms → length ms ≡ length xs → 1 ≤ c → c + length xs ≤ 1 + length p.asks → drain.turn_first ms c w.services.post ≡ schedule.client_first p xs c h

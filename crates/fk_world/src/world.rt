@@ -15,6 +15,7 @@ ghost use Rattle.fk_stand.specs.Tables.{table_after};
 ghost use Rattle.fk_queue.specs.Posts.{post_of};
 ghost use Rattle.fk_user.specs.Stored.{store_of};
 ghost use Rattle.fk_watch.specs.Kept.{watches_of};
+ghost use Rattle.fk_world.specs.Quiet.{is_quiet};
 
 use crate::making::clients_of;
 use fk_base::{Config, NoMemory, Numbers};
@@ -89,6 +90,15 @@ impl<T: Table> World<T> {
         ensures { result ≡ next_of_drain (plan_of self.now.deployment) self.now.past }
     {
         self.engine.next_of_drain()
+    }
+
+    /// Whether no function is in flight, no message waits, and every client has answered all its
+    /// commands and owes no ping.
+    pub fn quiet(&self) -> bool
+        requires { self.now.spent ≡ false }
+        ensures { result ≡ is_quiet (plan_of self.now.deployment) self.now.past }
+    {
+        self.engine.quiet()
     }
 
     /// The numbers of the functions in flight, from the least on.
