@@ -1,3 +1,4 @@
+pub mod Asks
 pub mod Fits
 pub mod Flights
 pub mod Goes

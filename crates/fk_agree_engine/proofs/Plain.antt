@@ -225,13 +225,13 @@ tell_quiet : (p : Plan) (h : List Entry) (n : ℕ) (o : Option ℕ) → next.nex
 tell_quiet p h n None = refl
 tell_quiet p h n (Some k) = refl
 
-session_head_is : (p : Plan) (c : ℕ) (h : List Entry) (w : Meaning) → IsWorld p h w → is_client p c ≡ true → head_number (w.services.post.lanes (lane.Session c)) ≡ session_head c h
+pub session_head_is : (p : Plan) (c : ℕ) (h : List Entry) (w : Meaning) → IsWorld p h w → is_client p c ≡ true → head_number (w.services.post.lanes (lane.Session c)) ≡ session_head c h
 session_head_is p c h w x i = ap head_number (lane_is p h w.services.post (lane.Session c) x.services.post i) ∙ (heads_are_the_rules p h x.history).0 c
 
-leader_head_is : (p : Plan) (h : List Entry) (w : Meaning) → IsWorld p h w → head_number (w.services.post.lanes lane.Leader) ≡ leader_head h
+pub leader_head_is : (p : Plan) (h : List Entry) (w : Meaning) → IsWorld p h w → head_number (w.services.post.lanes lane.Leader) ≡ leader_head h
 leader_head_is p h w x = ap head_number (lane_is p h w.services.post lane.Leader x.services.post refl) ∙ (heads_are_the_rules p h x.history).1
 
-watch_head_is : (p : Plan) (h : List Entry) (w : Meaning) → IsWorld p h w → head_number (w.services.post.lanes lane.Watch) ≡ watch_head h
+pub watch_head_is : (p : Plan) (h : List Entry) (w : Meaning) → IsWorld p h w → head_number (w.services.post.lanes lane.Watch) ≡ watch_head h
 watch_head_is p h w x = ap head_number (lane_is p h w.services.post lane.Watch x.services.post refl) ∙ (heads_are_the_rules p h x.history).2
 
 started_is : (p : Plan) (h : List Entry) (w : Meaning) → IsWorld p h w → w.functions.started + 1 ≡ starts_of h + 1

@@ -1,3 +1,4 @@
 pub mod World
 pub mod Playing
 pub mod Starting
+pub mod Asking

@@ -3,6 +3,8 @@
 //! without a body.
 #![tactic(auto)]
 
+mod drains;
 mod events;
 
+pub use drains::{drain_asks_the_rules, drains_are_fit};
 pub use events::{engine_stands, event_is_next};
