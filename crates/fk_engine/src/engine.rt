@@ -77,6 +77,7 @@ impl<T: Table> Engine<T> {
     /// and the engine is spent: it answers `NoMemory` from then on.
     pub fn apply_event(&mut self, event: &Event) -> Result<(), NoMemory>
         requires { (engine_of T.meaning self.old).spent ≡ false
+            → length (engine_of T.meaning self.old).past < 2 ^ 62
             → FitsEvent (engine_of T.meaning self.old).parts event.now }
         ensures played { OnOk result (Plays event.now (engine_of T.meaning self.old)
             (engine_of T.meaning self.new)) }

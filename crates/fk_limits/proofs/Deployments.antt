@@ -20,7 +20,7 @@ use Rattle.fk_spec.specs.Start.{Origin, Sent, Evicted, origin_of, request_from, 
 use Rattle.fk_limits.specs.Deployments.{AsksAreLimited, AsksAreReadable, ClientsAreFew, CommandsAreFew, RequestsAreLimited, RequestsAreReadable}
 use Rattle.fk_limits.proofs.Wants.{Fits, FitsRequest, want_fits}
 
-is_sound : (d : Deployment) → IsMeant d → IsSound d
+pub is_sound : (d : Deployment) → IsMeant d → IsSound d
 is_sound d m = let read = reading_was [] (lines m.0) d m.1 in subst IsSound read.2 (read_is_sound m.0 read.0 read.1)
 
 -- ---- requests
@@ -103,7 +103,7 @@ nth_is_light bs (suc n) m l = client_is_light bs n m l
 pub commands_are_few : CommandsAreFew
 commands_are_few d c m = nth_is_light d.clients c 2048 (is_sound d m).clients.light
 
-one_each : (bs : List Block) → length (all_asks bs) ≡ length (block_names bs)
+pub one_each : (bs : List Block) → length (all_asks bs) ≡ length (block_names bs)
 one_each [] = refl
 one_each (b ∷ bs) = ap suc (one_each bs)
 

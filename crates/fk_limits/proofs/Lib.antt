@@ -1,3 +1,4 @@
 pub mod Decoded
 pub mod Deployments
+pub mod Turning
 pub mod Wants

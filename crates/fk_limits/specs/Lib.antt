@@ -1,1 +1,2 @@
 pub mod Deployments
+pub mod Turns
