@@ -1,5 +1,5 @@
 -- What each status says of the source and the sink: their bytes, where they are told, before and after.
-use Rattle.std.specs.Prelude.{◌≡◌, ℕ, ◌+◌, ◌==◌, Bool, ◌⊎◌, List, [], ◌∷◌, ◌++◌, codes, Option}
+use Rattle.std.specs.Prelude.{◌≡◌, ℕ, ◌+◌, ◌==◌, Bool, ◌⊎◌, List, [], ◌∷◌, ◌++◌, codes, Option, Some, false}
 use Rattle.std.specs.Fmt.{decimal}
 use Rattle.std.specs.List.{list_any}
 use Rattle.std.specs.Io.KnownBytes.{Appends, Consumes, IsAtEnd}
@@ -10,6 +10,7 @@ use Rattle.fk_script.specs.Reading.{Means, Offends, deployment_of}
 use Rattle.fk_script.specs.Reasons.{why_text}
 use Rattle.fk_script.specs.declared.deployment.Deployment.{Deployment}
 use Rattle.fk_script.specs.declared.why.Why.{Why}
+use Rattle.fk_world.specs.World.{View}
 use Rattle.fk_run.specs.Run.{IsRunOf, client_names}
 
 abbrev pub is_status : ℕ → Bool
@@ -53,20 +54,21 @@ pub record RefusesRead (source source_after sink sink_after : Option (List ℕ))
 abbrev pub Refuses : Option (List ℕ) → Option (List ℕ) → Option (List ℕ) → Option (List ℕ) → Type 0
 Refuses source source_after sink sink_after = RefusesLength source source_after sink sink_after ⊎ RefusesRead source source_after sink sink_after
 
--- The text of a run of the deployment was written.
-pub record WritesRunOf (deployment : Deployment) (sink sink_after : Option (List ℕ)) : Type 0 where
+-- The text of a run of the deployment was written, and the world that played it is held; it isn't spent.
+pub record WritesRunOf (deployment : Deployment) (sink sink_after : Option (List ℕ)) (played : Option View) : Type 0 where
   pub history : List Entry
+  pub held : played ≡ Some (record { deployment = deployment; past = history; spent = false })
   pub ran : IsRunOf deployment history
   pub written : Appends sink sink_after (history_text (client_names deployment) history)
 
 -- The text of a run of the deployment that the input means was written.
-pub record WritesRun (input : List ℕ) (sink sink_after : Option (List ℕ)) : Type 0 where
+pub record WritesRun (input : List ℕ) (sink sink_after : Option (List ℕ)) (played : Option View) : Type 0 where
   pub deployment : Deployment
   pub meant : deployment_of input ≡ Means deployment
-  pub run : WritesRunOf deployment sink sink_after
+  pub run : WritesRunOf deployment sink sink_after played
 
 -- status 0: the run of the whole input was written
-pub record Runs (source source_after sink sink_after : Option (List ℕ)) : Type 0 where
+pub record Runs (source source_after sink sink_after : Option (List ℕ)) (played : Option View) : Type 0 where
   pub input : List ℕ
   pub read : TakesAll source source_after input
-  pub written : WritesRun input sink sink_after
+  pub written : WritesRun input sink sink_after played

@@ -7,14 +7,17 @@ ghost use Rattle.fk_run.specs.Run.{client_names};
 ghost use Rattle.fk_run.specs.Statuses.{Refuses, RefusesLine, Runs, WritesRun, WritesRunOf, is_status};
 
 use crate::play::play;
-use crate::status::{NO_MEMORY, READ_FAULT, USAGE};
+use crate::status::{DONE, NO_MEMORY, READ_FAULT, USAGE};
 use crate::write::{refuse, refuse_line, write_history};
 use fk_base::{Names, NoMemory, ReadAll, Sink, Source, read_all};
 use fk_print::History;
 use fk_script::{Deployment, ScriptFault, read_script};
+use fk_store::ListTable;
+use fk_world::World;
 use std::alloc::Global;
 
-/// Reads a deployment to its end, plays it and writes the history; the answer is an exit status.
+/// Reads a deployment to its end, plays it and writes the history; the answer is an exit status. After 0
+/// `played` holds the world that was played.
 ///
 /// The statuses, the first that fits: 64 words on the command line, 66 a read fault, 65 an input that
 /// is too long or has a line that offends, 74 a write fault, 71 want of memory, 0 else.
@@ -23,6 +26,7 @@ pub fn fk_run<S: Source, K: Sink>(
     words: &[String],
     source: &mut S,
     sink: &mut K,
+    played: &mut Option<World<ListTable>>,
 ) -> u8
     ensures words { (result ≡ 64) ↔ (words.now ≢ []) }
     ensures unread { result ≡ 64 → source.new ≡ source.old }
@@ -31,7 +35,8 @@ pub fn fk_run<S: Source, K: Sink>(
     ensures silent { result ≡ 66 → sink.new ≡ sink.old }
     ensures refused { result ≡ 65 → Refuses (S.left source.old) (S.left source.new) (K.taken sink.old) (K.taken sink.new) }
     ensures write_fault { result ≡ 74 → Rose (K.faults sink.old) (K.faults sink.new) }
-    ensures ran { result ≡ 0 → Runs (S.left source.old) (S.left source.new) (K.taken sink.old) (K.taken sink.new) }
+    ensures ran { result ≡ 0 → Runs (S.left source.old) (S.left source.new) (K.taken sink.old) (K.taken sink.new) played.new }
+    ensures kept { result ≢ 0 → played.new ≡ played.old }
 
     // At any status.
     ensures statuses { IsTrue (is_status result) }
@@ -42,7 +47,7 @@ pub fn fk_run<S: Source, K: Sink>(
         return USAGE;
     }
     match read_all(alloc, source) {
-        Ok(input) => answer(alloc, input.as_slice(), sink),
+        Ok(input) => answer(alloc, input.as_slice(), sink, played),
         Err(ReadAll::TooLong) => refuse("bad TooLong\n", sink),
         Err(ReadAll::ReadFault) => READ_FAULT,
         Err(ReadAll::NoMemory) => NO_MEMORY,
@@ -50,32 +55,48 @@ pub fn fk_run<S: Source, K: Sink>(
 }
 
 /// Writes a run of the deployment that the bytes mean, or why there is none.
-fn answer<K: Sink>(alloc: Global, input: &[u8], sink: &mut K) -> u8
+fn answer<K: Sink>(
+    alloc: Global,
+    input: &[u8],
+    sink: &mut K,
+    played: &mut Option<World<ListTable>>,
+) -> u8
     ensures refused { result ≡ 65 → RefusesLine input.now (K.taken sink.old) (K.taken sink.new) }
-    ensures ran { result ≡ 0 → WritesRun input.now (K.taken sink.old) (K.taken sink.new) }
+    ensures ran { result ≡ 0 → WritesRun input.now (K.taken sink.old) (K.taken sink.new) played.new }
+    ensures kept { result ≢ 0 → played.new ≡ played.old }
     ensures fault { result ≡ 74 → Rose (K.faults sink.old) (K.faults sink.new) }
     ensures statuses { (result ≡ 0) ⊎ (result ≡ 65) ⊎ (result ≡ 71) ⊎ (result ≡ 74) }
     ensures later { K.faults sink.old ≤ K.faults sink.new }
 {
     match read_script(alloc, input) {
-        Ok(deployment) => run(alloc, deployment, sink),
+        Ok(deployment) => run(alloc, deployment, sink, played),
         Err(ScriptFault::Bad(line, why)) => refuse_line(alloc, line, why, sink),
         Err(ScriptFault::NoMemory) => NO_MEMORY,
     }
 }
 
 /// Plays the deployment and writes its run.
-fn run<K: Sink>(alloc: Global, deployment: Deployment, sink: &mut K) -> u8
+fn run<K: Sink>(
+    alloc: Global,
+    deployment: Deployment,
+    sink: &mut K,
+    played: &mut Option<World<ListTable>>,
+) -> u8
     requires meant { IsMeant deployment }
-    ensures ran { result ≡ 0 → WritesRunOf deployment (K.taken sink.old) (K.taken sink.new) }
+    ensures ran { result ≡ 0 → WritesRunOf deployment (K.taken sink.old) (K.taken sink.new) played.new }
+    ensures kept { result ≢ 0 → played.new ≡ played.old }
     ensures fault { result ≡ 74 → Rose (K.faults sink.old) (K.faults sink.new) }
     ensures statuses { (result ≡ 0) ⊎ (result ≡ 71) ⊎ (result ≡ 74) }
     ensures later { K.faults sink.old ≤ K.faults sink.new }
 {
-    match play(alloc, deployment) {
-        Ok(world) => write_run(alloc, world.deployment(), world.history(), sink),
-        Err(NoMemory) => NO_MEMORY,
+    let Ok(world) = play(alloc, deployment) else {
+        return NO_MEMORY;
+    };
+    let status = write_run(alloc, world.deployment(), world.history(), sink);
+    if status == DONE {
+        *played = Some(world);
     }
+    status
 }
 
 /// Writes a history of the deployment, with its clients' names.

@@ -62,7 +62,7 @@ const COUNTS: &str =
 fn status(alloc: Global, input: &str, wanted: &str) -> Result<u8, NoMemory> {
     let mut source = MemSource::new(alloc, input.as_bytes(), &[])?;
     let mut sink = MemSink::new(alloc, 4096, &[])?;
-    let status = fk_run(alloc, &[], &mut source, &mut sink);
+    let status = fk_run(alloc, &[], &mut source, &mut sink, &mut None);
     Ok(if sink.as_slice() == wanted.as_bytes() {
         status
     } else {

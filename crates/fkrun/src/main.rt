@@ -24,5 +24,11 @@ fn main(rt: HostRuntime) -> ExitCode {
     };
     let mut source = StdSource::new(rt.stdin());
     let mut sink = StdSink::new(rt.stdout());
-    ExitCode::from(fk_run(rt.alloc(), words.as_slice(), &mut source, &mut sink))
+    ExitCode::from(fk_run(
+        rt.alloc(),
+        words.as_slice(),
+        &mut source,
+        &mut sink,
+        &mut None,
+    ))
 }
