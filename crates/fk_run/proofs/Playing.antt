@@ -16,7 +16,6 @@ use Rattle.fk_spec.specs.Plan.{Plan, all_asks, plan_of}
 use Rattle.fk_spec.specs.Schedule.{Drains, TakesTurns}
 use Rattle.fk_agree_engine.specs.Playing.{IsMoment}
 use Rattle.fk_limits.specs.Turns.{IsEarly, OfEvent}
-use Rattle.fk_limits.proofs.Deployments.{clients_are_few}
 use Rattle.fk_limits.proofs.Turning.{times_are_short, turns_are_moments, turns_name_clients}
 use Rattle.fk_law_drain.proofs.Drained.{scheduled_is_answered}
 use Rattle.fk_law_lawful.proofs.Promising.{every_history_is_lawful}
@@ -50,13 +49,6 @@ turns_fit p (t ∷ ts) n i = (
 
 pub turns_are_fit : (d : Deployment) → IsMeant d → AreFit (plan_of d) d.turns
 turns_are_fit d m = turns_fit (plan_of d) d.turns (turns_name_clients d m) (turns_are_moments d m)
-
-pub one_each : (bs : List Block) → length (all_asks bs) ≡ length bs
-one_each [] = refl
-one_each (b ∷ bs) = ap suc (one_each bs)
-
-pub few_clients : (d : Deployment) → IsMeant d → length d.clients ≤ 64
-few_clients d m = subst (λ n. n ≤ 64) (one_each d.clients) (clients_are_few d m)
 
 pub short_lock : (d e : Deployment) → IsMeant d → e ≡ d → e.config.lock ≤ most_time
 short_lock d e m s = subst (λ x. x.config.lock ≤ most_time) (sym s) (times_are_short d m).0

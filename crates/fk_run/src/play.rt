@@ -20,7 +20,8 @@ const LAST_MOMENT: u64 = 4_611_686_018_427_387_904;
 /// Makes a whole drain.
 fn drain<T: Table>(world: &mut World<T>) -> Result<(), NoMemory>
     requires lock { world.old.deployment.config.lock ≤ most_time }
-    ensures drained { OnOk result (Drains (plan_of world.old.deployment) world.old.past world.new.past) }
+    ensures drained { OnOk result (Drains (plan_of world.old.deployment) world.old.past
+        world.new.past) }
     ensures going { OnOk result (world.new.spent ≡ false) }
     ensures deployment { world.new.deployment ≡ world.old.deployment }
 {
@@ -34,7 +35,8 @@ fn drain<T: Table>(world: &mut World<T>) -> Result<(), NoMemory>
 fn take<T: Table>(world: &mut World<T>, turns: &[Turn]) -> Result<(), NoMemory>
     requires lock { world.old.deployment.config.lock ≤ most_time }
     requires fit { AreFit (plan_of world.old.deployment) turns.now }
-    ensures taken { OnOk result (Takes (plan_of world.old.deployment) turns.now world.old.past world.new.past) }
+    ensures taken { OnOk result (Takes (plan_of world.old.deployment) turns.now world.old.past
+        world.new.past) }
     ensures deployment { world.new.deployment ≡ world.old.deployment }
 {
     let mut rest = turns;

@@ -16,8 +16,8 @@ use fk_store::ListTable;
 use fk_world::World;
 use std::alloc::Global;
 
-/// Reads a deployment to its end, plays it and writes the history; the answer is an exit status. After 0
-/// `played` holds the world that was played.
+/// Reads a deployment to its end, plays it and writes the history; the answer is an exit status.
+/// After 0 `played` holds the world that was played.
 ///
 /// The statuses, the first that fits: 64 words on the command line, 66 a read fault, 65 an input that
 /// is too long or has a line that offends, 74 a write fault, 71 want of memory, 0 else.
@@ -33,9 +33,11 @@ pub fn fk_run<S: Source, K: Sink>(
     ensures unwritten { result ≡ 64 → sink.new ≡ sink.old }
     ensures read_fault { result ≡ 66 → Rose (S.faults source.old) (S.faults source.new) }
     ensures silent { result ≡ 66 → sink.new ≡ sink.old }
-    ensures refused { result ≡ 65 → Refuses (S.left source.old) (S.left source.new) (K.taken sink.old) (K.taken sink.new) }
+    ensures refused { result ≡ 65 → Refuses (S.left source.old) (S.left source.new)
+        (K.taken sink.old) (K.taken sink.new) }
     ensures write_fault { result ≡ 74 → Rose (K.faults sink.old) (K.faults sink.new) }
-    ensures ran { result ≡ 0 → Runs (S.left source.old) (S.left source.new) (K.taken sink.old) (K.taken sink.new) played.new }
+    ensures ran { result ≡ 0 → Runs (S.left source.old) (S.left source.new)
+        (K.taken sink.old) (K.taken sink.new) played.new }
     ensures kept { result ≢ 0 → played.new ≡ played.old }
 
     // At any status.
@@ -61,8 +63,10 @@ fn answer<K: Sink>(
     sink: &mut K,
     played: &mut Option<World<ListTable>>,
 ) -> u8
-    ensures refused { result ≡ 65 → RefusesLine input.now (K.taken sink.old) (K.taken sink.new) }
-    ensures ran { result ≡ 0 → WritesRun input.now (K.taken sink.old) (K.taken sink.new) played.new }
+    ensures refused { result ≡ 65 → RefusesLine input.now
+        (K.taken sink.old) (K.taken sink.new) }
+    ensures ran { result ≡ 0 → WritesRun input.now
+        (K.taken sink.old) (K.taken sink.new) played.new }
     ensures kept { result ≢ 0 → played.new ≡ played.old }
     ensures fault { result ≡ 74 → Rose (K.faults sink.old) (K.faults sink.new) }
     ensures statuses { (result ≡ 0) ⊎ (result ≡ 65) ⊎ (result ≡ 71) ⊎ (result ≡ 74) }
@@ -83,7 +87,8 @@ fn run<K: Sink>(
     played: &mut Option<World<ListTable>>,
 ) -> u8
     requires meant { IsMeant deployment }
-    ensures ran { result ≡ 0 → WritesRunOf deployment (K.taken sink.old) (K.taken sink.new) played.new }
+    ensures ran { result ≡ 0 → WritesRunOf deployment
+        (K.taken sink.old) (K.taken sink.new) played.new }
     ensures kept { result ≢ 0 → played.new ≡ played.old }
     ensures fault { result ≡ 74 → Rose (K.faults sink.old) (K.faults sink.new) }
     ensures statuses { (result ≡ 0) ⊎ (result ≡ 71) ⊎ (result ≡ 74) }

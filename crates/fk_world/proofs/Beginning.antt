@@ -24,7 +24,7 @@ asked_each : (cs : List Command) → length (asks_of cs) ≡ length cs
 asked_each [] = refl
 asked_each (c ∷ cs) = ap suc (asked_each cs)
 
-asked_all : (bs : List Block) → length (all_asks bs) ≡ length bs
+pub asked_all : (bs : List Block) → length (all_asks bs) ≡ length bs
 asked_all [] = refl
 asked_all (b ∷ bs) = ap suc (asked_all bs)
 

@@ -12,13 +12,14 @@ use Rattle.fk_spec.specs.Lanes.{leader_head, session_head, watch_head}
 use Rattle.fk_spec.specs.Next.{names_client, next_entry, next_op}
 use Rattle.fk_spec.specs.Client.{client_op}
 use Rattle.fk_spec.specs.Schedule.{Drains, Empties, Emptied, Goes, Plays, client_first, crashes, deliver_first, deliver_where, is_idle, lead_where, next_of_drain, step_of_first, tell_where}
+use Rattle.fk_law.proofs.Draining.{drains_name_clients}
 use Rattle.fk_limits.proofs.Deployments.{clients_are_few}
 use Rattle.fk_engine.specs.Drain as drain
 use Rattle.fk_engine.specs.DrainFit.{FitsDrain, FitsReady}
 use Rattle.fk_engine.specs.Engine as engine
 use Rattle.fk_engine.specs.Flights.{AreInFlight}
 use Rattle.fk_agree_engine.specs.Playing.{IsMoment}
-use Rattle.fk_agree_engine.proofs.Asks.{are_in_flight, drain_is_fit, flight_is_the_rules, is_within, next_of_drain_is_the_rules, ready_is_fit, ready_is_the_rules}
+use Rattle.fk_agree_engine.proofs.Asks.{are_in_flight, drain_is_fit, flight_is_the_rules, next_of_drain_is_the_rules, ready_is_fit, ready_is_the_rules}
 use Rattle.fk_world.specs.World.{IsSound}
 
 -- What a drain asks. --------------------------------------------------------------------------------------
@@ -41,58 +42,58 @@ ready_fits d m e a s n = ready_is_fit (plan_of d) m.past m.parts e (a.stands s) 
 pub ready_is : (d : Deployment) (m : engine.Meaning) (e : Event) (b : Bool) → IsSound d m → m.spent ≡ false → names_client (plan_of d) e ≡ true → b ≡ drain.is_ready m.parts e → b ≡ not (is_idle (next_op (plan_of d) m.past e))
 ready_is d m e b a s n q = q ∙ ready_is_the_rules (plan_of d) m.past m.parts e n (a.stands s)
 
--- What it does next names a client. -----------------------------------------------------------------------
+-- What it does next is no clock's event. ------------------------------------------------------------------
 
 -- an event that an engine can play
 pub record IsPlayable (p : Plan) (e : Event) : Type 0 where
   pub named : names_client p e ≡ true
   pub moment : IsMoment e
 
-abbrev MayPlay : Plan → Option Event → Type 0
-MayPlay p None = Unit {0}
-MayPlay p (Some e) = IsPlayable p e
+abbrev MayPlay : Option Event → Type 0
+MayPlay None = Unit {0}
+MayPlay (Some e) = IsMoment e
 
-or_may : (p : Plan) (o q : Option Event) → MayPlay p o → MayPlay p q → MayPlay p (or_else o q)
-or_may p None q a b = b
-or_may p (Some e) q a b = a
+or_may : (o q : Option Event) → MayPlay o → MayPlay q → MayPlay (or_else o q)
+or_may None q a b = b
+or_may (Some e) q a b = a
 
-step_may : (p : Plan) (ns : List ℕ) → MayPlay p (step_of_first ns)
-step_may p [] = tt
-step_may p (n ∷ ns) = record { named = refl; moment = tt }
+step_may : (ns : List ℕ) → MayPlay (step_of_first ns)
+step_may [] = tt
+step_may (n ∷ ns) = tt
 
-tell_may : (p : Plan) (o : Option ℕ) → MayPlay p (tell_where o)
-tell_may p None = tt
-tell_may p (Some w) = record { named = refl; moment = tt }
+tell_may : (o : Option ℕ) → MayPlay (tell_where o)
+tell_may None = tt
+tell_may (Some w) = tt
 
-lead_may : (p : Plan) (o : Option ℕ) → MayPlay p (lead_where o)
-lead_may p None = tt
-lead_may p (Some t) = record { named = refl; moment = tt }
+lead_may : (o : Option ℕ) → MayPlay (lead_where o)
+lead_may None = tt
+lead_may (Some t) = tt
 
-deliver_may : (p : Plan) (c : ℕ) (o : Option ℕ) → is_client p c ≡ true → MayPlay p (deliver_where c o)
-deliver_may p c None i = tt
-deliver_may p c (Some k) i = record { named = i; moment = tt }
+deliver_may : (c : ℕ) (o : Option ℕ) → MayPlay (deliver_where c o)
+deliver_may c None = tt
+deliver_may c (Some k) = tt
 
-delivers_may : (p : Plan) (xs : List (List Ask)) (c : ℕ) (h : List Entry) → 1 ≤ c → c + length xs ≤ length p.asks + 1 → MayPlay p (deliver_first xs c h)
-delivers_may p [] c h a b = tt
-delivers_may p (x ∷ xs) c h a b = or_may p (deliver_where c (session_head c h)) (deliver_first xs (suc c) h) (deliver_may p c (session_head c h) (is_within p c a (omega (arith, b)))) (delivers_may p xs (suc c) h (omega (arith, a)) (omega (arith, b)))
+delivers_may : (xs : List (List Ask)) (c : ℕ) (h : List Entry) → MayPlay (deliver_first xs c h)
+delivers_may [] c h = tt
+delivers_may (x ∷ xs) c h = or_may (deliver_where c (session_head c h)) (deliver_first xs (suc c) h) (deliver_may c (session_head c h)) (delivers_may xs (suc c) h)
 
-turn_may : (p : Plan) (c : ℕ) (b : Bool) (o : Option Event) → is_client p c ≡ true → MayPlay p o → MayPlay p (if b then o else Some (event.Client c))
-turn_may p c true o i m = m
-turn_may p c false o i m = record { named = i; moment = tt }
+turn_may : (c : ℕ) (b : Bool) (o : Option Event) → MayPlay o → MayPlay (if b then o else Some (event.Client c))
+turn_may c true o m = m
+turn_may c false o m = tt
 
-turns_may : (p : Plan) (xs : List (List Ask)) (c : ℕ) (h : List Entry) → 1 ≤ c → c + length xs ≤ length p.asks + 1 → MayPlay p (client_first p xs c h)
-turns_may p [] c h a b = tt
-turns_may p (x ∷ xs) c h a b = turn_may p c (is_idle (client_op p c h)) (client_first p xs (suc c) h) (is_within p c a (omega (arith, b))) (turns_may p xs (suc c) h (omega (arith, a)) (omega (arith, b)))
+turns_may : (p : Plan) (xs : List (List Ask)) (c : ℕ) (h : List Entry) → MayPlay (client_first p xs c h)
+turns_may p [] c h = tt
+turns_may p (x ∷ xs) c h = turn_may c (is_idle (client_op p c h)) (client_first p xs (suc c) h) (turns_may p xs (suc c) h)
 
-next_may : (p : Plan) (h : List Entry) → MayPlay p (next_of_drain p h)
+next_may : (p : Plan) (h : List Entry) → MayPlay (next_of_drain p h)
 next_may p h =
-    or_may p (step_of_first (in_flight p h)) (or_else (tell_where (watch_head h)) (or_else (lead_where (leader_head h)) (or_else (deliver_first p.asks 1 h) (client_first p p.asks 1 h)))) (step_may p (in_flight p h))
-    (or_may p (tell_where (watch_head h)) (or_else (lead_where (leader_head h)) (or_else (deliver_first p.asks 1 h) (client_first p p.asks 1 h))) (tell_may p (watch_head h))
-    (or_may p (lead_where (leader_head h)) (or_else (deliver_first p.asks 1 h) (client_first p p.asks 1 h)) (lead_may p (leader_head h))
-    (or_may p (deliver_first p.asks 1 h) (client_first p p.asks 1 h) (delivers_may p p.asks 1 h (omega arith) (omega arith)) (turns_may p p.asks 1 h (omega arith) (omega arith)))))
+    or_may (step_of_first (in_flight p h)) (or_else (tell_where (watch_head h)) (or_else (lead_where (leader_head h)) (or_else (deliver_first p.asks 1 h) (client_first p p.asks 1 h)))) (step_may (in_flight p h))
+    (or_may (tell_where (watch_head h)) (or_else (lead_where (leader_head h)) (or_else (deliver_first p.asks 1 h) (client_first p p.asks 1 h))) (tell_may (watch_head h))
+    (or_may (lead_where (leader_head h)) (or_else (deliver_first p.asks 1 h) (client_first p p.asks 1 h)) (lead_may (leader_head h))
+    (or_may (deliver_first p.asks 1 h) (client_first p p.asks 1 h) (delivers_may p.asks 1 h) (turns_may p p.asks 1 h))))
 
 pub next_is_playable : (p : Plan) (h : List Entry) (e : Event) → Some e ≡ next_of_drain p h → IsPlayable p e
-next_is_playable p h e q = subst (MayPlay p) (sym q) (next_may p h)
+next_is_playable p h e q = record { named = drains_name_clients p h e (sym q); moment = subst MayPlay (sym q) (next_may p h) }
 
 -- What it plays. ------------------------------------------------------------------------------------------
 

@@ -3,14 +3,15 @@ use Rattle.fk_spec.specs.Next.{IsHistory}
 use Rattle.fk_spec.specs.Plan.{plan_of}
 use Rattle.fk_store.specs.Meaning.{new_table}
 use Rattle.fk_world.specs.World.{View}
-use Rattle.fk_run.proofs.Playing.{few_clients, fit_turns, one_each, played, short_lock}
+use Rattle.fk_world.proofs.Beginning.{are_few, asked_all}
+use Rattle.fk_run.proofs.Playing.{fit_turns, played, short_lock}
 use Rattle.fk_run.proofs.play.play.Goals as goal
 
 pub overflow_cast-sessions : goal.overflow_cast-sessions
-overflow_cast-sessions c = omega (arith, ap length c.as_slice.ensures, few_clients c.args.deployment c.requires.meant)
+overflow_cast-sessions c = omega (arith, ap length c.as_slice.ensures, are_few c.args.deployment c.requires.meant)
 
 pub new-requires-2-clause-table : goal.new-requires-2-clause-table
-new-requires-2-clause-table c = c.in_ok-table.ensures ∙ ap new_table (ap length c.as_slice.ensures ∙ sym (one_each c.args.deployment.clients))
+new-requires-2-clause-table c = c.in_ok-table.ensures ∙ ap new_table (ap length c.as_slice.ensures ∙ sym (asked_all c.args.deployment.clients))
 
 pub take-requires-clause-lock : goal.take-requires-clause-lock
 take-requires-clause-lock c = short_lock c.args.deployment c.in_ok-world.world.deployment c.requires.meant c.in_ok-world.ensures.deployment
