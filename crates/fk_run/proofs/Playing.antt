@@ -1,5 +1,5 @@
 -- What is played of a deployment is its run.
-use Rattle.std.proofs.Common.{◌≡◌, ◌≤◌, suc, true, List, [], ◌∷◌, length, refl, sym, ap, subst, arith}
+use Rattle.std.proofs.Common.{◌≡◌, ◌≤◌, true, List, [], ◌∷◌, sym, subst, arith}
 use Rattle.std.specs.List.{All}
 use Rattle.std.proofs.lemmas.List.Elements.{All-tail}
 use Rattle.fk_print.specs.declared.entry.Entry.{Entry}
@@ -7,12 +7,11 @@ use Rattle.fk_print.specs.declared.event.Event.{Event}
 use Rattle.fk_print.specs.declared.event.Event.TheVariants as event
 use Rattle.fk_script.specs.PrintLaws.{IsMeant}
 use Rattle.fk_script.specs.Values.{most_time}
-use Rattle.fk_script.specs.declared.deployment.Block.{Block}
 use Rattle.fk_script.specs.declared.deployment.Deployment.{Deployment}
 use Rattle.fk_script.specs.declared.deployment.Turn.{Turn}
 use Rattle.fk_script.specs.declared.deployment.Turn.TheVariants as turn
 use Rattle.fk_spec.specs.Next.{IsHistory, names_client}
-use Rattle.fk_spec.specs.Plan.{Plan, all_asks, plan_of}
+use Rattle.fk_spec.specs.Plan.{Plan, plan_of}
 use Rattle.fk_spec.specs.Schedule.{Drains, TakesTurns}
 use Rattle.fk_agree_engine.specs.Playing.{IsMoment}
 use Rattle.fk_limits.specs.Turns.{IsEarly, OfEvent}

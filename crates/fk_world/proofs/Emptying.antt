@@ -1,11 +1,11 @@
 -- What a drain asks of a world, and what it plays.
 use Rattle.std.specs.Prelude.{not}
-use Rattle.std.proofs.Common.{◌≡◌, ℕ, suc, ◌+◌, ◌≤◌, Bool, true, false, if◌then◌else◌, List, [], ◌∷◌, ◌++◌, length, refl, sym, ◌∙◌, subst, arith, Option, Some, None}
+use Rattle.std.proofs.Common.{◌≡◌, ℕ, suc, ◌+◌, Bool, true, false, if◌then◌else◌, List, [], ◌∷◌, ◌++◌, refl, sym, ◌∙◌, subst, arith, Option, Some, None}
 use Rattle.fk_print.specs.declared.entry.Entry.{Entry}
 use Rattle.fk_print.specs.declared.event.Event.{Event}
 use Rattle.fk_print.specs.declared.event.Event.TheVariants as event
 use Rattle.fk_script.specs.declared.deployment.Deployment.{Deployment}
-use Rattle.fk_spec.specs.Plan.{Ask, Plan, is_client, plan_of}
+use Rattle.fk_spec.specs.Plan.{Ask, Plan, plan_of}
 use Rattle.fk_spec.specs.Start.{clock_of, or_else}
 use Rattle.fk_spec.specs.Function.{in_flight}
 use Rattle.fk_spec.specs.Lanes.{leader_head, session_head, watch_head}
