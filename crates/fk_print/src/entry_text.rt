@@ -14,7 +14,7 @@ pub fn render_entry(alloc: Global, clients: &Names, entry: &Entry) -> Result<Byt
     ensures { IfOk result (λ bytes. bytes ≡ entry_text clients.now entry.now) }
 {
     let mut out = String::new(alloc);
-    put_entry(&mut out, clients, entry)?;
+    append_entry(&mut out, clients, entry)?;
     Bytes::from_slice(alloc, out.as_bytes())
 }
 
@@ -25,12 +25,13 @@ pub fn render(alloc: Global, clients: &Names, history: &History) -> Result<Bytes
 {
     let mut out = String::new(alloc);
     'writing: for entry in history.as_slice() {
-        put_entry(&mut out, clients, entry)?;
+        append_entry(&mut out, clients, entry)?;
     }
     Bytes::from_slice(alloc, out.as_bytes())
 }
 
-fn put_entry(out: &mut String, clients: &Names, entry: &Entry) -> Result<(), NoMemory>
+/// Adds the text of an entry to the end of a text. After want of memory a front of it may have been added.
+pub fn append_entry(out: &mut String, clients: &Names, entry: &Entry) -> Result<(), NoMemory>
     ensures { OnOk result (string_bytes out.new ≡ string_bytes out.old
         ++ entry_text clients.now entry.now) }
 {

@@ -23,7 +23,7 @@ mod summary_text;
 mod worked;
 
 pub use entry::Entry;
-pub use entry_text::{render, render_entry};
+pub use entry_text::{append_entry, render, render_entry};
 pub use event::Event;
 pub use history::History;
 pub use line::{Act, Line, Printed, Shown, Verb};

@@ -23,7 +23,7 @@ symbol_at [] k h = refl
 symbol_at (x ∷ xs) zero h = (and_parts (is_symbol x) (list_all is_symbol xs) h).0
 symbol_at (x ∷ xs) (suc k) h = symbol_at xs k (and_parts (is_symbol x) (list_all is_symbol xs) h).1
 
-all_append : (p : ℕ → Bool) (xs ys : List ℕ) → list_all p xs ≡ true → list_all p ys ≡ true → list_all p (xs ++ ys) ≡ true
+pub all_append : (p : ℕ → Bool) (xs ys : List ℕ) → list_all p xs ≡ true → list_all p ys ≡ true → list_all p (xs ++ ys) ≡ true
 all_append p [] ys g h = h
 all_append p (x ∷ xs) ys g h =
     let both = and_parts (p x) (list_all p xs) g in

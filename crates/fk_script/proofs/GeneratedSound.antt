@@ -15,7 +15,8 @@ use Rattle.fk_script.proofs.CleanWords.{plain_word}
 use Rattle.fk_script.proofs.CodedData.{decoded_back, empty_cons}
 use Rattle.fk_script.proofs.Numerals.{number_plain, number_word}
 use Rattle.fk_script.proofs.TextWords.{utf8_bytes}
-use Rattle.fk_script.proofs.Sound.{IsPath, IsData, IsCommand, IsSession, IsTurn, IsSound, command_weight, commands_weight}
+use Rattle.fk_script.proofs.Sound.{IsPath, IsData, IsCommand, IsSession, IsTurn, IsSound, commands_weight}
+use Rattle.fk_script.proofs.SoundCommands.{IsLone, choose}
 
 all_append : (xs ys : List ℕ) → list_all is_plain xs ≡ true → list_all is_plain ys ≡ true → list_all is_plain (xs ++ ys) ≡ true
 all_append [] ys g h = h
@@ -34,15 +35,7 @@ path_is node end h =
 data_is : (j : ℕ) → j < 2 ^ 64 → IsData (decimal j)
 data_is j h = decoded_back (decimal j) (utf8_bytes (decimal j) (number_word j h).text)
 
--- a command that counts once
-abbrev IsOne : Command → Type 0
-IsOne c = IsCommand c × (command_weight c ≡ 1)
-
-choose : (b : Bool) (x y : Command) → IsOne x → IsOne y → IsOne (cond b x y)
-choose true x y h i = h
-choose false x y h i = i
-
-command_is : (j kind node : ℕ) → j < 2 ^ 64 → IsOne (generated_command j kind node)
+command_is : (j kind node : ℕ) → j < 2 ^ 64 → IsLone (generated_command j kind node)
 command_is j kind node h =
     let own = path_is node [] refl in
     let d = data_is j h in
@@ -53,7 +46,7 @@ command_is j kind node h =
     (choose (kind % 8 == 5) _ _ (record { word = plain_word (codes "/") refl refl; undashed = refl }, refl)
     (choose (kind % 8 == 6) _ _ ((own, refl), refl) ((path_is node (codes "/e") refl, d), refl))))))
 
-push : (cs : List Command) (c : Command) → AllByRecursion IsCommand cs → IsOne c → AllByRecursion IsCommand (cs ++ c ∷ []) × (commands_weight (cs ++ c ∷ []) ≡ commands_weight cs + 1)
+push : (cs : List Command) (c : Command) → AllByRecursion IsCommand cs → IsLone c → AllByRecursion IsCommand (cs ++ c ∷ []) × (commands_weight (cs ++ c ∷ []) ≡ commands_weight cs + 1)
 push [] c h g = ((g.0, tt), omega (arith, g.1))
 push (d ∷ cs) c h g =
     let more = push cs c h.1 g in

@@ -21,4 +21,5 @@ pub mod SoundCommands
 pub mod SoundLines
 pub mod SoundTurns
 pub mod TextWords
+pub mod Unscheduling
 pub mod WordValues

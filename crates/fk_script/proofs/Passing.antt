@@ -2,6 +2,7 @@
 use Rattle.std.proofs.Common.{◌≡◌, ℕ, ◌+◌, true, List, [], ◌∷◌, ◌++◌, Option, Some, None, length, refl, ◌∙◌, ap}
 use Rattle.std.specs.Str.{is_utf8}
 use Rattle.std.proofs.lemmas.Str.{is_utf8-from_IsUtf8}
+use Rattle.std.proofs.lemmas.Option.{same_Some}
 use Rattle.fk_print.specs.Words.{spaced}
 use Rattle.fk_script.specs.Lines.{Word, Line, lines, words}
 use Rattle.fk_script.specs.Printed.{line_text}
@@ -26,15 +27,12 @@ abbrev pub passes : SoFar → List Line → Option SoFar
 passes s [] = Some s
 passes s (l ∷ ls) = unless_off (offence s l) (passes (after_line s l) ls)
 
-same_some : (s t : SoFar) → Some s ≡ Some t → s ≡ t
-same_some s t e = cc
-
 step_is : (o : Option Why) (n : ℕ) (r : Reading) (p : Option SoFar) (s : SoFar) → (p ≡ Some s → r ≡ Means (meant s)) → unless_off o p ≡ Some s → unless o n r ≡ Means (meant s)
 step_is None n r p s i h = i h
 step_is (Some why) n r p s i h = cc h
 
 pub reading_is : (before : List (List Word)) (ls : List Line) (s : SoFar) → passes (so_far before) ls ≡ Some s → reading_after before ls ≡ Means (meant s)
-reading_is before [] s h = ap (λ t. Means (meant t)) (same_some (so_far before) s h)
+reading_is before [] s h = ap (λ t. Means (meant t)) (same_Some (so_far before) s h)
 reading_is before (l ∷ ls) s h =
     step_is (offence (so_far before) l) (length before + 1) (reading_after (words l.text ∷ before) ls) (passes (after_line (so_far before) l) ls) s
     (reading_is (words l.text ∷ before) ls s) h
@@ -43,7 +41,7 @@ reading_is before (l ∷ ls) s h =
 abbrev pub IsRead : SoFar → List Line → Deployment → Type 0
 IsRead s ls d = (t : SoFar) × (passes s ls ≡ Some t) × (meant t ≡ d)
 
-means_inj : (d e : Deployment) → Means d ≡ Means e → d ≡ e
+pub means_inj : (d e : Deployment) → Means d ≡ Means e → d ≡ e
 means_inj d e h = cc
 
 step_was : (o : Option Why) (n : ℕ) (r : Reading) (p : Option SoFar) (d : Deployment) → (r ≡ Means d → (t : SoFar) × (p ≡ Some t) × (meant t ≡ d)) → unless o n r ≡ Means d

@@ -64,7 +64,7 @@ lone wait verb ws c v w f m one = record {
 }
 
 -- the parts of a multi, cut at `;`
-abbrev is_semicolon : Word → Bool
+abbrev pub is_semicolon : Word → Bool
 is_semicolon word = is word (codes ";")
 
 step_cut : (t : Bool) (w : Word) (ws rest : List Word) → (not t && list_all is_apart ws) ≡ true

@@ -23,6 +23,7 @@ use Rattle.fk_script.proofs.CleanWords.{IsWord, AreWords}
 use Rattle.fk_script.proofs.CodedData.{decoded_back}
 use Rattle.fk_script.proofs.TextWords.{utf8_bytes}
 use Rattle.fk_script.proofs.Sound.{IsPath, IsPartPath, IsData, IsVersion, IsPart, IsCommand, command_weight}
+use Rattle.fk_script.proofs.PrintedCommands.{is_semicolon}
 
 -- the words from the path on, which doesn't start with `-`
 abbrev IsRestOf : (Word → Type 0) → List Word → Type 0
@@ -81,10 +82,10 @@ close_name name options version h =
     (only_close (is_one_of (codes "create" ∷ codes "set" ∷ []) name) (is_one_of (codes "delete" ∷ codes "get" ∷ codes "stat" ∷ codes "ls" ∷ []) name) (is name (codes "close")) h)
 
 -- a command that is no multi
-abbrev IsLone : Command → Type 0
+abbrev pub IsLone : Command → Type 0
 IsLone c = IsCommand c × (command_weight c ≡ 1)
 
-choose : (b : Bool) (x y : Command) → IsLone x → IsLone y → IsLone (cond b x y)
+pub choose : (b : Bool) (x y : Command) → IsLone x → IsLone y → IsLone (cond b x y)
 choose true x y h i = h
 choose false x y h i = i
 
@@ -131,9 +132,6 @@ part_is name options version (path ∷ rest) r f u =
     let d : IsData (bytes ph) = data_is (has_option (codes "-b") ph) (data_word (path ∷ rest)) (data_of IsPartWord (λ w h. h.word) path rest r.2) in
     let v : IsVersion (expected version) = version_is version in
     choose_part (is name (codes "create")) _ _ (p, d) (choose_part (is name (codes "set")) _ _ (p, d, v) (p, v))
-
-abbrev is_semicolon : Word → Bool
-is_semicolon word = is word (codes ";")
 
 onto_part : (w : Word) (pieces : List (List Word)) → IsPartWord w → AllByRecursion (AllByRecursion IsPartWord) pieces → AllByRecursion (AllByRecursion IsPartWord) (onto_first w pieces)
 onto_part w [] h hs = ((h, tt), tt)

@@ -7,6 +7,7 @@ use Rattle.std.specs.Str.Parse.{digits_value}
 use Rattle.std.proofs.lemmas.List.{append-nil, length-append, map-append}
 use Rattle.std.proofs.lemmas.Bool.{and_parts, and_from, not-false, leb-false, ltb-false, leb-true}
 use Rattle.std.proofs.lemmas.Str.{IsUtf8-from_is_utf8}
+use Rattle.std.proofs.lemmas.Option.{same_Some}
 use Rattle.fk_print.specs.ClientNames.{is_client_name}
 use Rattle.fk_script.specs.CommandLines.{command_line, meant_command, weight}
 use Rattle.fk_script.specs.EventLines.{event_fits, turn_of}
@@ -33,20 +34,20 @@ use Rattle.fk_script.proofs.TextWords.{words_read}
 use Rattle.fk_script.proofs.Sound.{IsCommand, IsBlock, IsTurn, IsSound, command_weight, commands_weight, blocks_weight, are_new}
 
 -- the tests that a line passed whose words give no reason
-record Passed (s : SoFar) (k : Kind) (ws : List Word) : Type 0 where
-  line : is_unknown_line k ≡ false
-  command : is_unknown_command k ws ≡ false
-  words : is_bad_words s k ws ≡ false
-  name : is_bad_name k ws ≡ false
-  fresh : is_repeated_name s k ws ≡ false
-  client : is_unknown_client s k ws ≡ false
-  few : is_too_many s k ws ≡ false
+pub record Passed (s : SoFar) (k : Kind) (ws : List Word) : Type 0 where
+  pub line : is_unknown_line k ≡ false
+  pub command : is_unknown_command k ws ≡ false
+  pub words : is_bad_words s k ws ≡ false
+  pub name : is_bad_name k ws ≡ false
+  pub fresh : is_repeated_name s k ws ≡ false
+  pub client : is_unknown_client s k ws ≡ false
+  pub few : is_too_many s k ws ≡ false
 
-off : (b : Bool) (w : Why) (o : Option Why) → cond b (Some w) o ≡ None → (b ≡ false) × (o ≡ None)
+pub off : (b : Bool) (w : Why) (o : Option Why) → cond b (Some w) o ≡ None → (b ≡ false) × (o ≡ None)
 off true w o h = cc h
 off false w o h = (refl, h)
 
-passed : (s : SoFar) (k : Kind) (ws : List Word) → reason s k ws ≡ None → Passed s k ws
+pub passed : (s : SoFar) (k : Kind) (ws : List Word) → reason s k ws ≡ None → Passed s k ws
 passed s k ws h =
     let a = off (is_unknown_line k) why.UnknownLine _ h in
     let b = off (is_unknown_command k ws) why.UnknownCommand _ a.1 in
@@ -276,15 +277,12 @@ good_line s l f o g =
     let clean = words_read l.text (IsUtf8-from_is_utf8 l.text (not-false (is_utf8 l.text) u.0)) f in
     good_after s ws (kind_of s.place ws) clean refl (passed s (kind_of s.place ws) ws e.1) g
 
-some_same : (s t : SoFar) → Some s ≡ Some t → s ≡ t
-some_same s t e = cc
-
 step_off : (o : Option Why) (p : Option SoFar) (t : SoFar) → unless_off o p ≡ Some t → (o ≡ None) × (p ≡ Some t)
 step_off None p t h = (refl, h)
 step_off (Some w) p t h = cc h
 
 good_lines : (ls : List Line) (s t : SoFar) → AllByRecursion IsFed ls → IsGood s → passes s ls ≡ Some t → IsGood t
-good_lines [] s t f g h = subst IsGood (some_same s t h) g
+good_lines [] s t f g h = subst IsGood (same_Some s t h) g
 good_lines (l ∷ ls) s t f g h =
     let both = step_off (offence s l) (passes (after_line s l) ls) t h in
     good_lines ls (after_line s l) t f.1 (good_line s l f.0 both.0 g) both.1

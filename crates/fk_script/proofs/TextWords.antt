@@ -12,6 +12,7 @@ use Rattle.std.proofs.lemmas.Str.{IsUtf8-append, IsUtf8-encode, IsUtf8-nil, enco
 use Rattle.fk_script.specs.Lines.{Word, words, is_empty, is_space}
 use Rattle.fk_script.proofs.CleanWords.{is_inner, AreWords}
 use Rattle.fk_script.proofs.JoinedLines.{is_fed}
+use Rattle.fk_script.proofs.CodedData.{all_append}
 
 abbrev pub is_spaceless : ℕ → Bool
 is_spaceless byte = not (byte == 32)
@@ -24,12 +25,6 @@ record IsPiece (w : Word) : Type 0 where
   spaceless : list_all is_spaceless w ≡ true
   fed : list_all is_fed w ≡ true
   text : IsUtf8 w
-
-all_append : (p : ℕ → Bool) (xs ys : List ℕ) → list_all p xs ≡ true → list_all p ys ≡ true → list_all p (xs ++ ys) ≡ true
-all_append p [] ys g h = h
-all_append p (x ∷ xs) ys g h =
-    let both = and_parts (p x) (list_all p xs) g in
-    and_from (p x) (list_all p (xs ++ ys)) both.0 (all_append p xs ys both.1 h)
 
 all_parts : (p : ℕ → Bool) (xs ys : List ℕ) → list_all p (xs ++ ys) ≡ true → (list_all p xs ≡ true) × (list_all p ys ≡ true)
 all_parts p [] ys h = (refl, h)

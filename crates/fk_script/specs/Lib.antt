@@ -9,7 +9,9 @@ pub mod Printed
 pub mod Reading
 pub mod Reasons
 pub mod SoFar
+pub mod Unscheduled
 pub mod Values
 pub mod WordLaws
 pub mod WorkedFiles
 pub mod WorkedScripts
+pub mod WorkedUnscheduled

@@ -1,6 +1,7 @@
 //! Files that were read by hand, evaluated by the grammar.
 
 ghost use Rattle.fk_script.specs.WorkedFiles.{AreJudged, CrowdedIsRead, ServiceIsRead};
+ghost use Rattle.fk_script.specs.WorkedUnscheduled.{UnscheduledAreJudged};
 
 /// Three workers of one service, and the beginning of a schedule.
 pub fn service_is_read()
@@ -15,4 +16,9 @@ pub fn crowded_is_read()
 /// Files with one offending line, each with the first reason of the first one.
 pub fn offenders_are_judged()
     ensures { AreJudged }
+{}
+
+/// Files that have to stand without a schedule.
+pub fn unscheduled_are_judged()
+    ensures { UnscheduledAreJudged }
 {}

@@ -6,6 +6,7 @@ pub mod Locks
 pub mod Settling
 pub mod Stored
 pub mod Watches
+pub mod WatchNumbers
 pub mod Pings
 pub mod Lanes
 pub mod Follower
@@ -24,6 +25,7 @@ pub mod Holding
 pub mod Promises
 pub mod Refusals
 pub mod Lawful
+pub mod Run
 pub mod Scenarios
 pub mod CreateThenGet
 pub mod RefusalAhead

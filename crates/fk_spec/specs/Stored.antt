@@ -1,5 +1,5 @@
 -- The tree that the commits leave, and the stamps of the user records.
-use Rattle.std.specs.Prelude.{ℕ, ◌==◌, nat_le, Bool, false, if◌then◌else◌, ◌++◌, List, [], ◌∷◌, Option, Some, None, max}
+use Rattle.std.specs.Prelude.{ℕ, ◌==◌, nat_le, if◌then◌else◌, ◌++◌, List, [], ◌∷◌, Option, Some, None, max}
 use Rattle.fk_base.specs.Path.{PathNames, same_path}
 use Rattle.fk_tree.specs.Sorted.{has_path, in_path_order}
 use Rattle.fk_tree.specs.View.{View}
@@ -10,6 +10,7 @@ use Rattle.fk_tree.specs.declared.applied.Applied.{Applied}
 use Rattle.fk_tree.specs.declared.node.Node.{Node}
 use Rattle.fk_tree.specs.declared.request.Request.{Request}
 use Rattle.fk_tree.specs.declared.request.Request.TheVariants as request
+use Rattle.fk_tree.specs.Rows.{is_of}
 use Rattle.fk_print.specs.declared.entry.Entry.{Entry}
 use Rattle.fk_print.specs.declared.op.Op.{Op}
 use Rattle.fk_print.specs.declared.op.Op.TheVariants as op
@@ -21,13 +22,9 @@ abbrev pub all_edited : List Applied → List PathNames
 all_edited [] = []
 all_edited (a ∷ done) = edited_paths a ++ all_edited done
 
-abbrev pub is_owned_by : ℕ → Option Node → Bool
-is_owned_by c None = false
-is_owned_by c (Some n) = n.owner == c
-
 abbrev pub owned_among : ℕ → View → List PathNames → List PathNames
 owned_among c v [] = []
-owned_among c v (p ∷ ps) = if is_owned_by c (v.node p) then p ∷ owned_among c v ps else owned_among c v ps
+owned_among c v (p ∷ ps) = if is_of c (v.node p) then p ∷ owned_among c v ps else owned_among c v ps
 
 -- the paths whose node session c owns after applied requests, in path order
 abbrev pub owned_after : ℕ → List Applied → List PathNames

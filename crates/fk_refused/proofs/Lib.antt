@@ -1,0 +1,13 @@
+pub mod Telling
+pub mod Trees
+pub mod Once
+pub mod Replies
+pub mod Views
+pub mod Notices
+pub mod Held
+pub mod Causes
+pub mod Lost
+pub mod Evictions
+pub mod Schedules
+pub mod Unanswered
+pub mod Rules

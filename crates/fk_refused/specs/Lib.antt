@@ -1,0 +1,12 @@
+pub mod Changing
+pub mod Once
+pub mod Replies
+pub mod Views
+pub mod Notices
+pub mod Held
+pub mod Causes
+pub mod Lost
+pub mod Evictions
+pub mod Schedules
+pub mod Unanswered
+pub mod Rules

@@ -1,0 +1,17 @@
+-- Paths and data at their limits, and beyond them.
+use Rattle.std.proofs.Common.{refl}
+use Rattle.fk_tree.specs.Fill.{last_digits}
+use Rattle.fk_law_schedule.proofs.Computed.{schedule_is_computed}
+use Rattle.fk_runs.specs.AtTheLimits.{deployed, entries, AtTheLimitsIsAnswered, AtTheLimitsIsPlayed, AtTheLimitsIsScheduled}
+
+pub is_played : AtTheLimitsIsPlayed
+unfolding last_digits
+is_played = refl
+
+pub is_scheduled : AtTheLimitsIsScheduled
+unfolding last_digits
+is_scheduled = (schedule_is_computed deployed entries).0 refl
+
+pub is_answered : AtTheLimitsIsAnswered
+unfolding last_digits
+is_answered = record { clients = (record { commands = (refl, (refl, (refl, (refl, (refl, (refl, (refl, (refl, (refl, (refl, (refl, (refl, (refl, (refl, tt)))))))))))))); lane = refl; inbox = refl; pings = refl }, tt); leader = refl; watch = refl; functions = refl }

@@ -1,0 +1,16 @@
+pub mod Known
+pub mod PassedOn
+pub mod DroppedPush
+pub mod BehindEviction
+pub mod MultiBehindEviction
+pub mod SeenUnanswered
+pub mod TwoWatches
+pub mod WatchNumbers
+pub mod PingsAndPongs
+pub mod RefusalNumbers
+pub mod AtTheLimits
+pub mod LateReplies
+pub mod AfterTheEnd
+pub mod TwoFollowers
+pub mod FailingClient
+pub mod WholeSchedule

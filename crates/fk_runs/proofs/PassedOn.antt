@@ -1,0 +1,17 @@
+-- A refusal whose lock passed on is answered as lost.
+use Rattle.std.proofs.Common.{refl}
+use Rattle.fk_tree.specs.Fill.{last_digits}
+use Rattle.fk_law_schedule.proofs.Computed.{schedule_is_computed}
+use Rattle.fk_runs.specs.PassedOn.{deployed, entries, PassedOnIsAnswered, PassedOnIsPlayed, PassedOnIsScheduled}
+
+pub is_played : PassedOnIsPlayed
+unfolding last_digits
+is_played = refl
+
+pub is_scheduled : PassedOnIsScheduled
+unfolding last_digits
+is_scheduled = (schedule_is_computed deployed entries).0 refl
+
+pub is_answered : PassedOnIsAnswered
+unfolding last_digits
+is_answered = record { clients = (record { commands = (refl, (refl, tt)); lane = refl; inbox = refl; pings = refl }, (record { commands = (refl, (refl, tt)); lane = refl; inbox = refl; pings = refl }, tt)); leader = refl; watch = refl; functions = refl }

@@ -1,0 +1,17 @@
+-- One push fires the watches of two paths, and a late leader notes none again.
+use Rattle.std.proofs.Common.{refl}
+use Rattle.fk_tree.specs.Fill.{last_digits}
+use Rattle.fk_law_schedule.proofs.Computed.{schedule_is_computed}
+use Rattle.fk_runs.specs.TwoWatches.{deployed, entries, TwoWatchesIsAnswered, TwoWatchesIsPlayed, TwoWatchesIsScheduled}
+
+pub is_played : TwoWatchesIsPlayed
+unfolding last_digits
+is_played = refl
+
+pub is_scheduled : TwoWatchesIsScheduled
+unfolding last_digits
+is_scheduled = (schedule_is_computed deployed entries).0 refl
+
+pub is_answered : TwoWatchesIsAnswered
+unfolding last_digits
+is_answered = record { clients = (record { commands = (refl, (refl, (refl, (refl, (refl, (refl, tt)))))); lane = refl; inbox = refl; pings = refl }, (record { commands = (refl, (refl, (refl, tt))); lane = refl; inbox = refl; pings = refl }, tt)); leader = refl; watch = refl; functions = refl }

@@ -1,0 +1,196 @@
+-- One push fires the watches of two paths, and a late leader notes none again. Each entry is copied from the printed history of
+-- the case `one-push-fires-two-watches`.
+use Rattle.std.specs.Prelude.{negsuc, true, false, List, [], ◌∷◌, codes}
+use Rattle.fk_tree.specs.declared.change.Change.TheVariants as change
+use Rattle.fk_tree.specs.declared.change.Kind.TheVariants as kind
+use Rattle.fk_print.specs.declared.entry.Entry.{Entry}
+use Rattle.fk_print.specs.declared.event.Event.TheVariants as event
+use Rattle.fk_print.specs.declared.line.Act.TheVariants as act
+use Rattle.fk_print.specs.declared.line.Line.TheVariants as line
+use Rattle.fk_print.specs.declared.line.Shown.TheVariants as shown
+use Rattle.fk_print.specs.declared.line.Verb.TheVariants as verb
+use Rattle.fk_print.specs.declared.op.Op.TheVariants as op
+use Rattle.fk_script.specs.declared.command.Command.TheVariants as command
+use Rattle.fk_script.specs.declared.deployment.Deployment.{Deployment}
+use Rattle.fk_script.specs.declared.deployment.Turn.TheVariants as turn
+use Rattle.fk_spec.specs.Scenarios.{entry}
+use Rattle.fk_spec.specs.Schedule.{Answered, Scheduled}
+use Rattle.fk_runs.specs.Playing.{IsPlayed}
+
+abbrev pub deployed : Deployment
+deployed = record { config = record { lock = 10; beat = 30 }; clients = (record { name = (codes "a"); commands = ((command.Create (codes "/x") (codes "0") false false true) ∷ (command.Create (codes "/y") (codes "0") false false true) ∷ (command.Get (codes "/y") true) ∷ (command.Get (codes "/x") true) ∷ (command.Get (codes "/x") false) ∷ (command.Get (codes "/y") false) ∷ []) } ∷ record { name = (codes "b"); commands = ((command.Set (codes "/x") (codes "1") (negsuc 0) true) ∷ (command.Set (codes "/y") (codes "2") (negsuc 0) true) ∷ (command.Set (codes "/y") (codes "3") (negsuc 0) true) ∷ []) } ∷ []); turns = ((turn.One (event.Client 1)) ∷ (turn.One (event.Deliver 1)) ∷ (turn.One (event.Step 1)) ∷ (turn.One (event.Step 1)) ∷ (turn.One (event.Step 1)) ∷ (turn.One (event.Step 1)) ∷ (turn.One (event.Step 1)) ∷ (turn.One (event.Step 1)) ∷ (turn.One (event.Step 1)) ∷ (turn.One event.Leader) ∷ (turn.One (event.Step 2)) ∷ (turn.One (event.Step 2)) ∷ (turn.One (event.Step 2)) ∷ (turn.One (event.Step 2)) ∷ (turn.One (event.Step 2)) ∷ (turn.One (event.Step 2)) ∷ (turn.One (event.Step 2)) ∷ (turn.One (event.Step 2)) ∷ (turn.One (event.Step 2)) ∷ (turn.One (event.Step 2)) ∷ (turn.One (event.Step 2)) ∷ (turn.One (event.Step 2)) ∷ (turn.One (event.Client 1)) ∷ (turn.One (event.Client 1)) ∷ (turn.One (event.Client 1)) ∷ (turn.One (event.Deliver 1)) ∷ (turn.One (event.Step 3)) ∷ (turn.One (event.Step 3)) ∷ (turn.One (event.Step 3)) ∷ (turn.One (event.Step 3)) ∷ (turn.One (event.Step 3)) ∷ (turn.One (event.Step 3)) ∷ (turn.One (event.Step 3)) ∷ (turn.One event.Leader) ∷ (turn.One (event.Step 4)) ∷ (turn.One (event.Step 4)) ∷ (turn.One (event.Step 4)) ∷ (turn.One (event.Step 4)) ∷ (turn.One (event.Step 4)) ∷ (turn.One (event.Step 4)) ∷ (turn.One (event.Step 4)) ∷ (turn.One (event.Step 4)) ∷ (turn.One (event.Step 4)) ∷ (turn.One (event.Step 4)) ∷ (turn.One (event.Step 4)) ∷ (turn.One (event.Step 4)) ∷ (turn.One (event.Client 1)) ∷ (turn.One (event.Client 1)) ∷ (turn.One (event.Client 1)) ∷ (turn.One (event.Client 1)) ∷ (turn.One (event.Client 1)) ∷ (turn.One (event.Client 1)) ∷ (turn.One (event.Client 1)) ∷ (turn.One (event.Client 1)) ∷ (turn.One (event.Client 2)) ∷ (turn.One (event.Deliver 2)) ∷ (turn.One (event.Step 5)) ∷ (turn.One (event.Step 5)) ∷ (turn.One (event.Step 5)) ∷ (turn.One (event.Step 5)) ∷ (turn.One (event.Step 5)) ∷ (turn.One (event.Step 5)) ∷ (turn.One event.Leader) ∷ (turn.One (event.Step 6)) ∷ (turn.One (event.Step 6)) ∷ (turn.One (event.Step 6)) ∷ (turn.One (event.Step 6)) ∷ (turn.One (event.Step 6)) ∷ (turn.One (event.Step 6)) ∷ (turn.One (event.Step 6)) ∷ (turn.One (event.Step 6)) ∷ (turn.One (event.Step 6)) ∷ (turn.One (event.Step 6)) ∷ (turn.One (event.Step 6)) ∷ (turn.One (event.Step 6)) ∷ (turn.One (event.Client 2)) ∷ (turn.One (event.Client 2)) ∷ (turn.One (event.Client 2)) ∷ (turn.One (event.Deliver 2)) ∷ (turn.One (event.Step 7)) ∷ (turn.One (event.Step 7)) ∷ (turn.One (event.Step 7)) ∷ (turn.One (event.Step 7)) ∷ (turn.One (event.Step 7)) ∷ (turn.One (event.Step 7)) ∷ (turn.One event.Leader) ∷ (turn.One event.Leader) ∷ (turn.One (event.Step 8)) ∷ (turn.One (event.Step 8)) ∷ (turn.One (event.Step 8)) ∷ (turn.One (event.Step 9)) ∷ (turn.One (event.Step 9)) ∷ (turn.One (event.Step 9)) ∷ (turn.One (event.Step 8)) ∷ (turn.One (event.Step 8)) ∷ (turn.One (event.Step 8)) ∷ (turn.One (event.Step 8)) ∷ (turn.One (event.Step 8)) ∷ (turn.One (event.Step 8)) ∷ (turn.One (event.Step 8)) ∷ (turn.One (event.Step 8)) ∷ (turn.One (event.Client 1)) ∷ (turn.One (event.Client 1)) ∷ (turn.One (event.Client 1)) ∷ (turn.One event.Watch) ∷ (turn.One (event.Step 10)) ∷ (turn.One (event.Step 10)) ∷ (turn.One (event.Step 10)) ∷ (turn.One (event.Step 10)) ∷ (turn.One (event.Step 9)) ∷ (turn.One (event.Step 9)) ∷ (turn.One (event.Client 2)) ∷ (turn.One (event.Client 2)) ∷ (turn.One (event.Client 2)) ∷ (turn.One (event.Deliver 2)) ∷ (turn.One (event.Step 11)) ∷ (turn.One (event.Step 11)) ∷ (turn.One (event.Step 11)) ∷ (turn.One (event.Step 11)) ∷ (turn.One (event.Step 11)) ∷ (turn.One (event.Step 11)) ∷ (turn.One (event.Step 9)) ∷ (turn.One (event.Step 9)) ∷ (turn.One (event.Step 9)) ∷ (turn.One (event.Step 9)) ∷ (turn.One (event.Step 9)) ∷ (turn.One (event.Step 9)) ∷ (turn.One event.Leader) ∷ (turn.One (event.Step 12)) ∷ (turn.One (event.Step 12)) ∷ (turn.One (event.Step 12)) ∷ (turn.One (event.Step 12)) ∷ (turn.One (event.Step 12)) ∷ (turn.One (event.Step 12)) ∷ (turn.One (event.Step 12)) ∷ (turn.One (event.Step 12)) ∷ (turn.One (event.Step 12)) ∷ (turn.One (event.Step 12)) ∷ (turn.One (event.Client 1)) ∷ (turn.One (event.Client 1)) ∷ (turn.One (event.Client 1)) ∷ (turn.One event.Watch) ∷ (turn.One (event.Step 13)) ∷ (turn.One (event.Step 13)) ∷ (turn.One (event.Step 13)) ∷ (turn.One (event.Client 1)) ∷ (turn.One (event.Client 1)) ∷ (turn.One (event.Client 1)) ∷ (turn.One (event.Client 1)) ∷ (turn.One (event.Client 1)) ∷ (turn.One (event.Client 1)) ∷ []); scheduled = true }
+
+-- the newest first
+abbrev pub entries : List Entry
+entries = entry (event.Client 2) (op.LookOk 2 3 5) ((line.Reply 2 3 verb.Set (shown.Version 5 2)) ∷ [])
+    ∷ entry (event.Client 2) (op.TakeDone 2 3 5) []
+    ∷ entry (event.Client 2) (op.TakeDone 2 2 4) []
+    ∷ entry (event.Client 1) (op.TakeWatch 1 1) []
+    ∷ entry (event.Step 14) (op.AckOk 14) []
+    ∷ entry (event.Step 14) (op.Told 14 4) []
+    ∷ entry (event.Step 14) (op.Tell 14 1 1) []
+    ∷ entry event.Watch (op.Teller 14 3) []
+    ∷ entry (event.Clock 11) (op.Clock 11) []
+    ∷ entry (event.Client 1) op.Idle []
+    ∷ entry (event.Client 1) (op.LookOk 1 6 5) ((line.Reply 1 6 verb.Get (shown.Got 5 (codes "3") (record { czxid = 2; mzxid = 5; pzxid = 2; ctime = 0; mtime = 0; version = 2; cversion = 0; aversion = 0; owner = 0; length = 1; children = 0 }))) ∷ [])
+    ∷ entry (event.Client 1) (op.Read 1 6 5) []
+    ∷ entry (event.Client 1) (op.LookOk 1 5 5) ((line.Reply 1 5 verb.Get (shown.Got 4 (codes "1") (record { czxid = 1; mzxid = 3; pzxid = 1; ctime = 0; mtime = 0; version = 1; cversion = 0; aversion = 0; owner = 0; length = 1; children = 0 }))) ∷ [])
+    ∷ entry (event.Client 1) (op.Read 1 5 3) []
+    ∷ entry (event.Client 1) (op.TakeWatch 1 1) ((line.Notice 1 4 kind.Data change.Changed ((codes "y") ∷ [])) ∷ [])
+    ∷ entry (event.Step 13) (op.AckOk 13) []
+    ∷ entry (event.Step 13) (op.Told 13 4) []
+    ∷ entry (event.Step 13) (op.Tell 13 1 1) []
+    ∷ entry event.Watch (op.Teller 13 2) []
+    ∷ entry (event.Client 1) (op.LookHeld 1 5 5 1) []
+    ∷ entry (event.Client 1) (op.Read 1 5 3) []
+    ∷ entry (event.Client 1) (op.TakeWatch 1 2) ((line.Notice 1 3 kind.Data change.Changed ((codes "x") ∷ [])) ∷ [])
+    ∷ entry (event.Step 12) op.Idle []
+    ∷ entry (event.Step 12) op.Idle []
+    ∷ entry (event.Step 12) (op.AckOk 12) []
+    ∷ entry (event.Step 12) (op.DoneOk 12 5) []
+    ∷ entry (event.Step 12) (op.Reply 12 2 3) []
+    ∷ entry (event.Step 12) (op.PublishOk 12 5) ((line.Tx (record { tx = 5; moment = 0; session = 2; k = 3; act = act.Set ((codes "y") ∷ []) (codes "3") (negsuc 0) })) ∷ [])
+    ∷ entry (event.Step 12) (op.PutOk 12 5 ((codes "y") ∷ [])) []
+    ∷ entry (event.Step 12) (op.SweepOk 12 5 0) []
+    ∷ entry (event.Step 12) (op.PendingYes 12 5) []
+    ∷ entry (event.Step 12) (op.CommitSettled 12 5 3) []
+    ∷ entry event.Leader (op.Leader 12 5) []
+    ∷ entry (event.Step 9) op.Idle []
+    ∷ entry (event.Step 9) op.Idle []
+    ∷ entry (event.Step 9) (op.AckGone 9) []
+    ∷ entry (event.Step 9) (op.DoneMiss 9 4 4) []
+    ∷ entry (event.Step 9) (op.Reply 9 2 2) []
+    ∷ entry (event.Step 9) (op.Notify 9 4 3) []
+    ∷ entry (event.Step 11) op.Idle []
+    ∷ entry (event.Step 11) (op.AckOk 11) []
+    ∷ entry (event.Step 11) (op.CommitOk 11 5) []
+    ∷ entry (event.Step 11) (op.Push 11 5) []
+    ∷ entry (event.Step 11) (op.LockOk 11 ((codes "y") ∷ [])) []
+    ∷ entry (event.Step 11) (op.SessionNew 11) []
+    ∷ entry (event.Deliver 2) (op.Follower 11 2 3) []
+    ∷ entry (event.Client 2) (op.Send 2 3 3) []
+    ∷ entry (event.Client 2) (op.LookOk 2 2 4) ((line.Reply 2 2 verb.Set (shown.Version 4 1)) ∷ [])
+    ∷ entry (event.Client 2) (op.TakeDone 2 2 4) []
+    ∷ entry (event.Step 9) (op.PublishMiss 9 4 4) []
+    ∷ entry (event.Step 9) (op.PutMiss 9 4 ((codes "y") ∷ []) 4) []
+    ∷ entry (event.Step 10) op.Idle []
+    ∷ entry (event.Step 10) (op.AckOk 10) []
+    ∷ entry (event.Step 10) (op.Told 10 3) []
+    ∷ entry (event.Step 10) (op.Tell 10 1 2) []
+    ∷ entry event.Watch (op.Teller 10 1) []
+    ∷ entry (event.Client 1) (op.LookHeld 1 5 4 1) []
+    ∷ entry (event.Client 1) (op.LookHeld 1 5 4 1) []
+    ∷ entry (event.Client 1) (op.Read 1 5 3) []
+    ∷ entry (event.Step 8) op.Idle []
+    ∷ entry (event.Step 8) op.Idle []
+    ∷ entry (event.Step 8) (op.AckOk 8) []
+    ∷ entry (event.Step 8) (op.DoneOk 8 4) []
+    ∷ entry (event.Step 8) (op.Reply 8 2 2) []
+    ∷ entry (event.Step 8) (op.Notify 8 4 2) []
+    ∷ entry (event.Step 8) (op.PublishOk 8 4) ((line.Tx (record { tx = 4; moment = 0; session = 2; k = 2; act = act.Set ((codes "y") ∷ []) (codes "2") (negsuc 0) })) ∷ [])
+    ∷ entry (event.Step 8) (op.PutOk 8 4 ((codes "y") ∷ [])) []
+    ∷ entry (event.Step 9) (op.SweepMiss 9 4 4 1) []
+    ∷ entry (event.Step 9) (op.PendingYes 9 4) []
+    ∷ entry (event.Step 9) (op.CommitSettled 9 4 2) []
+    ∷ entry (event.Step 8) (op.SweepOk 8 4 1) []
+    ∷ entry (event.Step 8) (op.PendingYes 8 4) []
+    ∷ entry (event.Step 8) (op.CommitSettled 8 4 2) []
+    ∷ entry event.Leader (op.Leader 9 4) []
+    ∷ entry event.Leader (op.Leader 8 4) []
+    ∷ entry (event.Step 7) op.Idle []
+    ∷ entry (event.Step 7) (op.AckOk 7) []
+    ∷ entry (event.Step 7) (op.CommitOk 7 4) []
+    ∷ entry (event.Step 7) (op.Push 7 4) []
+    ∷ entry (event.Step 7) (op.LockOk 7 ((codes "y") ∷ [])) []
+    ∷ entry (event.Step 7) (op.SessionNew 7) []
+    ∷ entry (event.Deliver 2) (op.Follower 7 2 2) []
+    ∷ entry (event.Client 2) (op.Send 2 2 2) []
+    ∷ entry (event.Client 2) (op.LookOk 2 1 3) ((line.Reply 2 1 verb.Set (shown.Version 3 1)) ∷ [])
+    ∷ entry (event.Client 2) (op.TakeDone 2 1 3) []
+    ∷ entry (event.Step 6) op.Idle []
+    ∷ entry (event.Step 6) op.Idle []
+    ∷ entry (event.Step 6) op.Idle []
+    ∷ entry (event.Step 6) (op.AckOk 6) []
+    ∷ entry (event.Step 6) (op.DoneOk 6 3) []
+    ∷ entry (event.Step 6) (op.Reply 6 2 1) []
+    ∷ entry (event.Step 6) (op.Notify 6 3 1) []
+    ∷ entry (event.Step 6) (op.PublishOk 6 3) ((line.Tx (record { tx = 3; moment = 0; session = 2; k = 1; act = act.Set ((codes "x") ∷ []) (codes "1") (negsuc 0) })) ∷ [])
+    ∷ entry (event.Step 6) (op.PutOk 6 3 ((codes "x") ∷ [])) []
+    ∷ entry (event.Step 6) (op.SweepOk 6 3 1) []
+    ∷ entry (event.Step 6) (op.PendingYes 6 3) []
+    ∷ entry (event.Step 6) (op.CommitSettled 6 3 1) []
+    ∷ entry event.Leader (op.Leader 6 3) []
+    ∷ entry (event.Step 5) op.Idle []
+    ∷ entry (event.Step 5) (op.AckOk 5) []
+    ∷ entry (event.Step 5) (op.CommitOk 5 3) []
+    ∷ entry (event.Step 5) (op.Push 5 3) []
+    ∷ entry (event.Step 5) (op.LockOk 5 ((codes "x") ∷ [])) []
+    ∷ entry (event.Step 5) (op.SessionNew 5) []
+    ∷ entry (event.Deliver 2) (op.Follower 5 2 1) []
+    ∷ entry (event.Client 2) (op.Send 2 1 1) []
+    ∷ entry (event.Client 1) (op.WatchSet 1 4 2) ((line.Reply 1 4 verb.Get (shown.Got 2 (codes "0") (record { czxid = 1; mzxid = 1; pzxid = 1; ctime = 0; mtime = 0; version = 0; cversion = 0; aversion = 0; owner = 0; length = 1; children = 0 }))) ∷ [])
+    ∷ entry (event.Client 1) (op.LookOk 1 4 2) []
+    ∷ entry (event.Client 1) (op.Read 1 4 1) []
+    ∷ entry (event.Client 1) (op.WatchSet 1 3 1) ((line.Reply 1 3 verb.Get (shown.Got 2 (codes "0") (record { czxid = 2; mzxid = 2; pzxid = 2; ctime = 0; mtime = 0; version = 0; cversion = 0; aversion = 0; owner = 0; length = 1; children = 0 }))) ∷ [])
+    ∷ entry (event.Client 1) (op.LookOk 1 3 2) []
+    ∷ entry (event.Client 1) (op.Read 1 3 2) []
+    ∷ entry (event.Client 1) (op.LookOk 1 2 2) ((line.Reply 1 2 verb.Create (shown.Created 2 ((codes "y") ∷ []))) ∷ [])
+    ∷ entry (event.Client 1) (op.TakeDone 1 2 2) []
+    ∷ entry (event.Step 4) op.Idle []
+    ∷ entry (event.Step 4) op.Idle []
+    ∷ entry (event.Step 4) op.Idle []
+    ∷ entry (event.Step 4) (op.AckOk 4) []
+    ∷ entry (event.Step 4) (op.DoneOk 4 2) []
+    ∷ entry (event.Step 4) (op.Reply 4 1 2) []
+    ∷ entry (event.Step 4) (op.PublishOk 4 2) ((line.Tx (record { tx = 2; moment = 0; session = 1; k = 2; act = act.Create ((codes "y") ∷ []) (codes "0") false false })) ∷ [])
+    ∷ entry (event.Step 4) (op.PutOk 4 2 ((codes "y") ∷ [])) []
+    ∷ entry (event.Step 4) (op.PutOk 4 2 []) []
+    ∷ entry (event.Step 4) (op.SweepOk 4 2 0) []
+    ∷ entry (event.Step 4) (op.PendingYes 4 2) []
+    ∷ entry (event.Step 4) (op.CommitSettled 4 2 2) []
+    ∷ entry event.Leader (op.Leader 4 2) []
+    ∷ entry (event.Step 3) op.Idle []
+    ∷ entry (event.Step 3) (op.AckOk 3) []
+    ∷ entry (event.Step 3) (op.CommitOk 3 2) []
+    ∷ entry (event.Step 3) (op.Push 3 2) []
+    ∷ entry (event.Step 3) (op.LockOk 3 ((codes "y") ∷ [])) []
+    ∷ entry (event.Step 3) (op.LockOk 3 []) []
+    ∷ entry (event.Step 3) (op.SessionNew 3) []
+    ∷ entry (event.Deliver 1) (op.Follower 3 1 2) []
+    ∷ entry (event.Client 1) (op.Send 1 2 2) []
+    ∷ entry (event.Client 1) (op.LookOk 1 1 1) ((line.Reply 1 1 verb.Create (shown.Created 1 ((codes "x") ∷ []))) ∷ [])
+    ∷ entry (event.Client 1) (op.TakeDone 1 1 1) []
+    ∷ entry (event.Step 2) op.Idle []
+    ∷ entry (event.Step 2) op.Idle []
+    ∷ entry (event.Step 2) op.Idle []
+    ∷ entry (event.Step 2) (op.AckOk 2) []
+    ∷ entry (event.Step 2) (op.DoneOk 2 1) []
+    ∷ entry (event.Step 2) (op.Reply 2 1 1) []
+    ∷ entry (event.Step 2) (op.PublishOk 2 1) ((line.Tx (record { tx = 1; moment = 0; session = 1; k = 1; act = act.Create ((codes "x") ∷ []) (codes "0") false false })) ∷ [])
+    ∷ entry (event.Step 2) (op.PutOk 2 1 ((codes "x") ∷ [])) []
+    ∷ entry (event.Step 2) (op.PutOk 2 1 []) []
+    ∷ entry (event.Step 2) (op.SweepOk 2 1 0) []
+    ∷ entry (event.Step 2) (op.PendingYes 2 1) []
+    ∷ entry (event.Step 2) (op.CommitSettled 2 1 1) []
+    ∷ entry event.Leader (op.Leader 2 1) []
+    ∷ entry (event.Step 1) op.Idle []
+    ∷ entry (event.Step 1) (op.AckOk 1) []
+    ∷ entry (event.Step 1) (op.CommitOk 1 1) []
+    ∷ entry (event.Step 1) (op.Push 1 1) []
+    ∷ entry (event.Step 1) (op.LockOk 1 ((codes "x") ∷ [])) []
+    ∷ entry (event.Step 1) (op.LockOk 1 []) []
+    ∷ entry (event.Step 1) (op.SessionNew 1) []
+    ∷ entry (event.Deliver 1) (op.Follower 1 1 1) []
+    ∷ entry (event.Client 1) (op.Send 1 1 1) []
+    ∷ []
+
+abbrev pub TwoWatchesIsPlayed : Type 0
+TwoWatchesIsPlayed = IsPlayed deployed entries
+
+-- its events are the deployment's turns and a last drain,
+abbrev pub TwoWatchesIsScheduled : Type 0
+TwoWatchesIsScheduled = Scheduled deployed entries
+
+-- and all is answered
+abbrev pub TwoWatchesIsAnswered : Type 0
+TwoWatchesIsAnswered = Answered deployed entries
