@@ -1,16 +1,17 @@
--- How many messages wait in all lanes.
-use Rattle.std.proofs.Common.{◌≡◌, ℕ, zero, suc, ◌+◌, ◌==◌, ◌<◌, ◌≤◌, true, false, cond, List, [], ◌∷◌, length, refl, ap, subst, arith}
+-- Sums over all lanes: how many messages wait, and how many blocks they take.
+use Rattle.std.proofs.Common.{◌≡◌, ℕ, zero, suc, ◌+◌, ◌==◌, ◌<◌, ◌≤◌, true, false, cond, List, [], ◌∷◌, ◌++◌, length, refl, ap, subst, arith}
 use Rattle.std.specs.Prelude.{is_some}
 use Rattle.std.proofs.lemmas.List.{length_push}
-use Rattle.std.proofs.lemmas.Bool.{eqb-true}
+use Rattle.std.proofs.lemmas.Bool.{eqb-true, eq-eqb}
 use Rattle.std.proofs.lemmas.Bool.Decides.{nat_tests}
+use Rattle.fk_region.proofs.Apart.{by_test}
+use Rattle.fk_region.specs.Kept.{blocks_of}
 use Rattle.fk_queue.specs.declared.lane.Lane.{Lane}
 use Rattle.fk_queue.specs.declared.lane.Lane.TheVariants as lane
 use Rattle.fk_queue.specs.Lanes.{is_lane, is_session}
 use Rattle.fk_queue.specs.declared.letter.Letter.{Letter}
-use Rattle.fk_queue.specs.Letters.{LaneState, empty_lane, first_number, head_number, rest, with_letter, without_head}
-use Rattle.fk_queue.specs.Meaning.{length_of, sum_to, waiting_among, with_lane}
-use Rattle.fk_queue.proofs.Standing.{by_test}
+use Rattle.fk_queue.specs.Letters.{LaneState, empty_lane, first_bytes, first_number, head_bytes, head_number, rest, with_letter, without_head}
+use Rattle.fk_queue.specs.Meaning.{blocks_among, blocks_for, length_of, over_lanes, sum_to, waiting_among, with_lane}
 
 -- SUMS
 -- numbers that differ only at k
@@ -31,38 +32,55 @@ sum_changed (suc n) k f g d l = by_test (suc n == k) (λ _. sum_to (suc n) f + g
     last k e i = subst (λ j. sum_to n f + f (suc n) + g j ≡ sum_to n g + g (suc n) + f j) e (grind (arith, i))
 
 -- LANES
-self_test : (k : ℕ) → (k == k) ≡ true
-self_test k = grind (arith, nat_tests)
-
-pub counted_with : (n : ℕ) (l : Lane) (s : LaneState) (f : Lane → LaneState) → is_lane n l ≡ true → waiting_among n (with_lane l s f) + length_of (f l) ≡ waiting_among n f + length_of s
-counted_with n lane.Leader s f h = omega arith
-counted_with n lane.Watch s f h = omega arith
-counted_with n (lane.Session k) s f h = by_sums (sum_changed n k after before (λ t e. ap (λ b. length_of (cond b s (f (lane.Session t))) + length_of (f (lane.Inbox t))) e) h) (ap (λ b. length_of (cond b s (f (lane.Session k)))) (self_test k))
+-- One lane is changed.
+pub counted_with : {X : Type 0} (m : X → ℕ) (n : ℕ) (l : Lane) (s : X) (f : Lane → X) → is_lane n l ≡ true → over_lanes n (λ q. m (with_lane l s f q)) + m (f l) ≡ over_lanes n (λ q. m (f q)) + m s
+counted_with m n lane.Leader s f h = omega arith
+counted_with m n lane.Watch s f h = omega arith
+counted_with m n (lane.Session k) s f h = by_sums (sum_changed n k after before (λ t e. ap (λ b. m (cond b s (f (lane.Session t))) + m (f (lane.Inbox t))) e) h) (ap (λ b. m (cond b s (f (lane.Session k)))) (eq-eqb k k refl))
   where
     before : ℕ → ℕ
-    before = λ t. length_of (f (lane.Session t)) + length_of (f (lane.Inbox t))
+    before = λ t. m (f (lane.Session t)) + m (f (lane.Inbox t))
 
     after : ℕ → ℕ
-    after = λ t. length_of (cond (t == k) s (f (lane.Session t))) + length_of (f (lane.Inbox t))
+    after = λ t. m (cond (t == k) s (f (lane.Session t))) + m (f (lane.Inbox t))
 
-    by_sums : sum_to n after + before k ≡ sum_to n before + after k → length_of (cond (k == k) s (f (lane.Session k))) ≡ length_of s
-        → waiting_among n (with_lane (lane.Session k) s f) + length_of (f (lane.Session k)) ≡ waiting_among n f + length_of s
+    by_sums : sum_to n after + before k ≡ sum_to n before + after k → m (cond (k == k) s (f (lane.Session k))) ≡ m s
+        → over_lanes n (λ q. m (with_lane (lane.Session k) s f q)) + m (f (lane.Session k)) ≡ over_lanes n (λ q. m (f q)) + m s
     by_sums a b = omega arith
-counted_with n (lane.Inbox k) s f h = by_sums (sum_changed n k after before (λ t e. ap (λ b. length_of (f (lane.Session t)) + length_of (cond b s (f (lane.Inbox t)))) e) h) (ap (λ b. length_of (cond b s (f (lane.Inbox k)))) (self_test k))
+counted_with m n (lane.Inbox k) s f h = by_sums (sum_changed n k after before (λ t e. ap (λ b. m (f (lane.Session t)) + m (cond b s (f (lane.Inbox t)))) e) h) (ap (λ b. m (cond b s (f (lane.Inbox k)))) (eq-eqb k k refl))
   where
     before : ℕ → ℕ
-    before = λ t. length_of (f (lane.Session t)) + length_of (f (lane.Inbox t))
+    before = λ t. m (f (lane.Session t)) + m (f (lane.Inbox t))
 
     after : ℕ → ℕ
-    after = λ t. length_of (f (lane.Session t)) + length_of (cond (t == k) s (f (lane.Inbox t)))
+    after = λ t. m (f (lane.Session t)) + m (cond (t == k) s (f (lane.Inbox t)))
 
-    by_sums : sum_to n after + before k ≡ sum_to n before + after k → length_of (cond (k == k) s (f (lane.Inbox k))) ≡ length_of s
-        → waiting_among n (with_lane (lane.Inbox k) s f) + length_of (f (lane.Inbox k)) ≡ waiting_among n f + length_of s
+    by_sums : sum_to n after + before k ≡ sum_to n before + after k → m (cond (k == k) s (f (lane.Inbox k))) ≡ m s
+        → over_lanes n (λ q. m (with_lane (lane.Inbox k) s f q)) + m (f (lane.Inbox k)) ≡ over_lanes n (λ q. m (f q)) + m s
     by_sums a b = omega arith
 
--- LAWS
+pub no_more_than_all : {X : Type 0} (m : X → ℕ) (none : X) → m none ≡ 0 → (n : ℕ) (f : Lane → X) (l : Lane) → is_lane n l ≡ true → m (f l) ≤ over_lanes n (λ q. m (f q))
+no_more_than_all m none e n f l h = below _ _ _ _ (counted_with m n l none f h) e
+  where
+    below : (after x all least : ℕ) → after + x ≡ all + least → least ≡ 0 → x ≤ all
+    below after x all least a b = omega (arith, a, b)
+
+no_sum : (n : ℕ) (f : ℕ → ℕ) → ((s : ℕ) → is_session n s ≡ true → f s ≡ 0) → sum_to n f ≡ 0
+no_sum zero f h = refl
+no_sum (suc n) f h = omega (arith, no_sum n f (λ s e. h s (grind (arith, nat_tests))), h (suc n) (grind (arith, nat_tests)))
+
+pub none_over : (n : ℕ) (f : Lane → ℕ) → ((l : Lane) → is_lane n l ≡ true → f l ≡ 0) → over_lanes n f ≡ 0
+none_over n f h = omega (arith, h lane.Leader refl, h lane.Watch refl, no_sum n both none)
+  where
+    both : ℕ → ℕ
+    both = λ s. f (lane.Session s) + f (lane.Inbox s)
+
+    none : (s : ℕ) → is_session n s ≡ true → both s ≡ 0
+    none s e = omega (arith, h (lane.Session s) e, h (lane.Inbox s) e)
+
+-- MESSAGES
 pub push_adds_one : (n : ℕ) (lanes : Lane → LaneState) (l : Lane) (bytes : List ℕ) → is_lane n l ≡ true → waiting_among n (with_lane l (with_letter bytes (lanes l)) lanes) ≡ waiting_among n lanes + 1
-push_adds_one n lanes l bytes h = more (lanes l) (counted_with n l (with_letter bytes (lanes l)) lanes h)
+push_adds_one n lanes l bytes h = more (lanes l) (counted_with length_of n l (with_letter bytes (lanes l)) lanes h)
   where
     after : ℕ
     after = waiting_among n (with_lane l (with_letter bytes (lanes l)) lanes)
@@ -71,7 +89,7 @@ push_adds_one n lanes l bytes h = more (lanes l) (counted_with n l (with_letter 
     more s a = omega (arith, a, length_push s.waiting (record { number = s.given + 1; bytes = bytes }))
 
 pub ack_takes_one : (n : ℕ) (lanes : Lane → LaneState) (l : Lane) → is_lane n l ≡ true → is_some (head_number (lanes l)) ≡ true → waiting_among n lanes ≡ waiting_among n (with_lane l (without_head (lanes l)) lanes) + 1
-ack_takes_one n lanes l h a = less (lanes l) (one_less (lanes l).waiting a) (counted_with n l (without_head (lanes l)) lanes h)
+ack_takes_one n lanes l h a = less (lanes l) (one_less (lanes l).waiting a) (counted_with length_of n l (without_head (lanes l)) lanes h)
   where
     after : ℕ
     after = waiting_among n (with_lane l (without_head (lanes l)) lanes)
@@ -83,34 +101,42 @@ ack_takes_one n lanes l h a = less (lanes l) (one_less (lanes l).waiting a) (cou
     less : (s : LaneState) → length_of s ≡ length_of (without_head s) + 1 → after + length_of s ≡ waiting_among n lanes + length_of (without_head s) → waiting_among n lanes ≡ after + 1
     less s a b = omega (arith, a, b)
 
-pub no_more_than_all : (n : ℕ) (lanes : Lane → LaneState) (l : Lane) → is_lane n l ≡ true → length_of (lanes l) ≤ waiting_among n lanes
-no_more_than_all n lanes l h = below (lanes l) (counted_with n l empty_lane lanes h)
-  where
-    after : ℕ
-    after = waiting_among n (with_lane l empty_lane lanes)
-
-    below : (s : LaneState) → after + length_of s ≡ waiting_among n lanes + 0 → length_of s ≤ waiting_among n lanes
-    below s a = omega (arith, a)
-
-no_sum : (n : ℕ) (f : ℕ → ℕ) → ((s : ℕ) → is_session n s ≡ true → f s ≡ 0) → sum_to n f ≡ 0
-no_sum zero f h = refl
-no_sum (suc n) f h = omega (arith, no_sum n f (λ s e. h s (grind (arith, nat_tests))), h (suc n) (grind (arith, nat_tests)))
-
 no_letter : (xs : List Letter) → length xs ≡ 0 → xs ≡ []
 no_letter [] e = refl
 no_letter (x ∷ xs) e = absurd (omega arith)
 
 pub empty_where_none_waits : (n : ℕ) (lanes : Lane → LaneState) (l : Lane) → is_lane n l ≡ true → waiting_among n lanes ≡ 0 → (lanes l).waiting ≡ []
-empty_where_none_waits n lanes l h e = no_letter (lanes l).waiting (none (no_more_than_all n lanes l h))
+empty_where_none_waits n lanes l h e = no_letter (lanes l).waiting (none _ _ (no_more_than_all length_of empty_lane refl n lanes l h) e)
   where
-    none : length_of (lanes l) ≤ waiting_among n lanes → length_of (lanes l) ≡ 0
-    none a = omega (arith, a, e)
+    none : (x all : ℕ) → x ≤ all → all ≡ 0 → x ≡ 0
+    none x all a b = omega (arith, a, b)
 
 pub none_waits_where_empty : (n : ℕ) (lanes : Lane → LaneState) → ((l : Lane) → is_lane n l ≡ true → (lanes l).waiting ≡ []) → waiting_among n lanes ≡ 0
-none_waits_where_empty n lanes h = omega (arith, ap length (h lane.Leader refl), ap length (h lane.Watch refl), no_sum n both none)
-  where
-    both : ℕ → ℕ
-    both = λ s. length_of (lanes (lane.Session s)) + length_of (lanes (lane.Inbox s))
+none_waits_where_empty n lanes h = none_over n (λ l. length_of (lanes l)) (λ l e. ap length (h l e))
 
-    none : (s : ℕ) → is_session n s ≡ true → both s ≡ 0
-    none s e = omega (arith, ap length (h (lane.Session s) e), ap length (h (lane.Inbox s) e))
+-- BLOCKS
+abbrev pub lane_blocks : LaneState → ℕ
+lane_blocks s = blocks_for s.waiting
+
+blocks_more : (xs : List Letter) (x : Letter) → blocks_for (xs ++ x ∷ []) ≡ blocks_for xs + blocks_of (length x.bytes)
+blocks_more [] x = omega arith
+blocks_more (y ∷ ys) x = omega (arith, blocks_more ys x)
+
+pub push_adds_blocks : (n : ℕ) (lanes : Lane → LaneState) (l : Lane) (bytes : List ℕ) → is_lane n l ≡ true → blocks_among n (with_lane l (with_letter bytes (lanes l)) lanes) ≡ blocks_among n lanes + blocks_of (length bytes)
+push_adds_blocks n lanes l bytes h = by_numbers _ _ _ _ _ (counted_with lane_blocks n l (with_letter bytes (lanes l)) lanes h) (blocks_more (lanes l).waiting (record { number = (lanes l).given + 1; bytes = bytes }))
+  where
+    by_numbers : (x s all t b : ℕ) → x + s ≡ all + t → t ≡ s + b → x ≡ all + b
+    by_numbers x s all t b e f = omega (arith, e, f)
+
+pub ack_frees_blocks : (n : ℕ) (lanes : Lane → LaneState) (l : Lane) → is_lane n l ≡ true → blocks_among n lanes ≡ blocks_among n (with_lane l (without_head (lanes l)) lanes) + blocks_of (length (head_bytes (lanes l)))
+ack_frees_blocks n lanes l h = by_numbers _ _ _ _ _ (counted_with lane_blocks n l (without_head (lanes l)) lanes h) (fewer (lanes l).waiting)
+  where
+    fewer : (xs : List Letter) → blocks_for xs ≡ blocks_for (rest xs) + blocks_of (length (first_bytes xs))
+    fewer [] = refl
+    fewer (x ∷ xs) = omega arith
+
+    by_numbers : (x s all t b : ℕ) → x + s ≡ all + t → s ≡ t + b → all ≡ x + b
+    by_numbers x s all t b e f = omega (arith, e, f)
+
+pub no_blocks_where_none_waits : (n : ℕ) (lanes : Lane → LaneState) → waiting_among n lanes ≡ 0 → blocks_among n lanes ≡ 0
+no_blocks_where_none_waits n lanes e = none_over n (λ l. lane_blocks (lanes l)) (λ l h. ap blocks_for (empty_where_none_waits n lanes l h e))

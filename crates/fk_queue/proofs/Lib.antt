@@ -1,3 +1,5 @@
+pub mod Backing
+pub mod Changing
 pub mod Counting
 pub mod Numbering
 pub mod Standing

@@ -1,17 +1,14 @@
--- The lanes stand apart in the list of their states.
-use Rattle.std.proofs.Common.{◌≡◌, ◌≢◌, ℕ, ◌+◌, ◌*◌, ◌<◌, Bool, true, false, cond, List, length, get_or, set, replicate, refl, sym, ◌∙◌, ap, subst, arith}
+-- The lanes stand apart in the list of what is kept of them.
+use Rattle.std.proofs.Common.{◌≡◌, ◌≢◌, ℕ, ◌+◌, ◌*◌, ◌<◌, true, false, cond, List, length, get_or, set, replicate, refl, sym, ◌∙◌, ap, subst, arith}
 use Rattle.std.proofs.lemmas.Bool.Decides.{nat_tests}
 use Rattle.std.proofs.lemmas.List.{get_or-set_same, get_or-set_other, get_or_default, get_or-replicate}
+use Rattle.fk_region.proofs.Apart.{by_test}
 use Rattle.fk_queue.specs.declared.lane.Lane.{Lane}
 use Rattle.fk_queue.specs.declared.lane.Lane.TheVariants as lane
 use Rattle.fk_queue.specs.Lanes.{is_lane, same_lane}
-use Rattle.fk_queue.specs.Letters.{LaneState, empty_lane}
 use Rattle.fk_queue.specs.Meaning.{with_lane}
-use Rattle.fk_queue.specs.Places.{lanes_of, place_of}
-
-pub by_test : (b : Bool) (P : Bool → Type 0) → (b ≡ true → P true) → (b ≡ false → P false) → P b
-by_test true P f g = f refl
-by_test false P f g = g refl
+use Rattle.fk_queue.specs.Places.{place_of, slips_of}
+use Rattle.fk_queue.specs.Slips.{Slips, no_slips}
 
 pub same_lane_self : (l : Lane) → same_lane l l ≡ true
 same_lane_self lane.Leader = refl
@@ -28,42 +25,42 @@ place_within n l e = grind (arith, nat_tests)
 places_apart : (n : ℕ) (p q : Lane) → is_lane n p ≡ true → is_lane n q ≡ true → same_lane p q ≡ false → place_of p ≢ place_of q
 places_apart n p q a b e = grind (arith, nat_tests)
 
--- a lane is written
-lane_set : (n : ℕ) (states : List LaneState) (l : Lane) (s : LaneState) (q : Lane) → is_lane n l ≡ true → length states ≡ 2 * n + 2
-    → lanes_of n (set states (place_of l) s) q ≡ with_lane l s (lanes_of n states) q
-lane_set n states l s q h k =
-    by_test (same_lane q l) (λ b. lanes_of n (set states (place_of l) s) q ≡ cond b s (lanes_of n states q))
-    (λ e. subst (λ x. lanes_of n (set states (place_of l) s) x ≡ s) (sym (same_lane_is q l e)) here)
-    (λ e. by_test (is_lane n q) (λ b. cond b (get_or (set states (place_of l) s) (place_of q) empty_lane) empty_lane ≡ cond b (get_or states (place_of q) empty_lane) empty_lane)
-    (λ i. get_or-set_other states (place_of l) (place_of q) s empty_lane (places_apart n q l i h e))
+-- what is kept of a lane is written
+slips_set : (n : ℕ) (queues : List Slips) (l : Lane) (s : Slips) (q : Lane) → is_lane n l ≡ true → length queues ≡ 2 * n + 2
+    → slips_of n (set queues (place_of l) s) q ≡ with_lane l s (slips_of n queues) q
+slips_set n queues l s q h k =
+    by_test (same_lane q l) (λ b. slips_of n (set queues (place_of l) s) q ≡ cond b s (slips_of n queues q))
+    (λ e. subst (λ x. slips_of n (set queues (place_of l) s) x ≡ s) (sym (same_lane_is q l e)) here)
+    (λ e. by_test (is_lane n q) (λ b. cond b (get_or (set queues (place_of l) s) (place_of q) no_slips) no_slips ≡ cond b (get_or queues (place_of q) no_slips) no_slips)
+    (λ i. get_or-set_other queues (place_of l) (place_of q) s no_slips (places_apart n q l i h e))
     (λ _. refl))
   where
-    inside : place_of l < length states
+    inside : place_of l < length queues
     inside = subst (λ m. place_of l < m) (sym k) (place_within n l h)
 
-    here : lanes_of n (set states (place_of l) s) l ≡ s
-    here = ap (λ b. cond b (get_or (set states (place_of l) s) (place_of l) empty_lane) empty_lane) h ∙ get_or-set_same states (place_of l) s empty_lane inside
+    here : slips_of n (set queues (place_of l) s) l ≡ s
+    here = ap (λ b. cond b (get_or (set queues (place_of l) s) (place_of l) no_slips) no_slips) h ∙ get_or-set_same queues (place_of l) s no_slips inside
 
-pub wrote_lane : (n : ℕ) (states after : List LaneState) (l : Lane) (s : LaneState) → is_lane n l ≡ true → length states ≡ 2 * n + 2
-    → after ≡ set states (place_of l) s → lanes_of n after ≡ with_lane l s (lanes_of n states)
-wrote_lane n states after l s h k e = λ i. λ q. (ap (λ qs. lanes_of n qs q) e ∙ lane_set n states l s q h k) i
+pub wrote_lane : (n : ℕ) (queues after : List Slips) (l : Lane) (s : Slips) → is_lane n l ≡ true → length queues ≡ 2 * n + 2
+    → after ≡ set queues (place_of l) s → slips_of n after ≡ with_lane l s (slips_of n queues)
+wrote_lane n queues after l s h k e = λ i. λ q. (ap (λ qs. slips_of n qs q) e ∙ slips_set n queues l s q h k) i
 
--- a state that was written where the lane's was found
-pub placed : (n : ℕ) (states : List LaneState) (l : Lane) (f : LaneState → LaneState) (place : ℕ) (x y : LaneState) → is_lane n l ≡ true → length states ≡ 2 * n + 2
-    → place ≡ place_of l → x ≡ get_or states place x → y ≡ f x → set states place y ≡ set states (place_of l) (f (lanes_of n states l))
-placed n states l f place x y h k e a b = rw e (ap (set states (place_of l)) (b ∙ ap f found))
+pub found_at : (n : ℕ) (queues : List Slips) (l : Lane) (place : ℕ) (x : Slips) → is_lane n l ≡ true → length queues ≡ 2 * n + 2 → place ≡ place_of l → x ≡ get_or queues place x → x ≡ slips_of n queues l
+found_at n queues l place x h k e a = a ∙ ap (λ p. get_or queues p x) e ∙ get_or_default queues (place_of l) x no_slips inside ∙ ap (λ b. cond b (get_or queues (place_of l) no_slips) no_slips) (sym h)
   where
-    inside : place_of l < length states
+    inside : place_of l < length queues
     inside = subst (λ m. place_of l < m) (sym k) (place_within n l h)
 
-    found : x ≡ lanes_of n states l
-    found = a ∙ ap (λ p. get_or states p x) e ∙ get_or_default states (place_of l) x empty_lane inside ∙ ap (λ b. cond b (get_or states (place_of l) empty_lane) empty_lane) (sym h)
+-- something that was written where the lane's was found
+pub placed : (n : ℕ) (queues : List Slips) (l : Lane) (f : Slips → Slips) (place : ℕ) (x y : Slips) → is_lane n l ≡ true → length queues ≡ 2 * n + 2
+    → place ≡ place_of l → x ≡ get_or queues place x → y ≡ f x → set queues place y ≡ set queues (place_of l) (f (slips_of n queues l))
+placed n queues l f place x y h k e a b = ap (λ p. set queues p y) e ∙ ap (set queues (place_of l)) (b ∙ ap f (found_at n queues l place x h k e a))
 
 -- only empty lanes
-pub no_lanes : (n : ℕ) (states : List LaneState) → states ≡ replicate (2 * n + 2) empty_lane → lanes_of n states ≡ λ l. empty_lane
-no_lanes n states e = λ i. λ q. (ap (λ qs. lanes_of n qs q) e ∙ none q) i
+pub none_kept : (n : ℕ) (queues : List Slips) → queues ≡ replicate (2 * n + 2) no_slips → slips_of n queues ≡ λ l. no_slips
+none_kept n queues e = λ i. λ q. (ap (λ qs. slips_of n qs q) e ∙ none q) i
   where
-    none : (q : Lane) → lanes_of n (replicate (2 * n + 2) empty_lane) q ≡ empty_lane
-    none q = by_test (is_lane n q) (λ b. cond b (get_or (replicate (2 * n + 2) empty_lane) (place_of q) empty_lane) empty_lane ≡ empty_lane)
-        (λ h. get_or-replicate (2 * n + 2) (place_of q) empty_lane empty_lane (place_within n q h))
+    none : (q : Lane) → slips_of n (replicate (2 * n + 2) no_slips) q ≡ no_slips
+    none q = by_test (is_lane n q) (λ b. cond b (get_or (replicate (2 * n + 2) no_slips) (place_of q) no_slips) no_slips ≡ no_slips)
+        (λ h. get_or-replicate (2 * n + 2) (place_of q) no_slips no_slips (place_within n q h))
         (λ _. refl)

@@ -1,12 +1,13 @@
 -- Laws of what a post means.
-use Rattle.std.specs.Prelude.{◌≡◌, ℕ, ◌+◌, true, false, List, [], is_some}
+use Rattle.std.specs.Prelude.{◌≡◌, ℕ, ◌+◌, true, false, List, [], length, is_some}
+use Rattle.fk_region.specs.Kept.{blocks_of}
 use Rattle.fk_queue.specs.declared.answer.Ack.{Ack}
 use Rattle.fk_queue.specs.declared.answer.Posted.{Posted}
 use Rattle.fk_queue.specs.declared.lane.Lane.{Lane}
 use Rattle.fk_queue.specs.Answers.{after_ack, after_push}
 use Rattle.fk_queue.specs.Lanes.{same_lane}
-use Rattle.fk_queue.specs.Letters.{head_number}
-use Rattle.fk_queue.specs.Meaning.{Meaning, has_lane, popped, pushed, waiting_in}
+use Rattle.fk_queue.specs.Letters.{head_bytes, head_number}
+use Rattle.fk_queue.specs.Meaning.{Meaning, blocks_in, has_lane, popped, pushed, waiting_in}
 
 -- The test for the same lane is true exactly where the lanes are equal.
 abbrev pub SameLaneIsEqual : Type 0
@@ -37,3 +38,15 @@ abbrev pub NoneWaitsWhereEmpty : Type 0
 NoneWaitsWhereEmpty = (m : Meaning)
     → ((l : Lane) → has_lane m l ≡ true → waiting_in m ≡ 0 → (m.lanes l).waiting ≡ [])
     × (((l : Lane) → has_lane m l ≡ true → (m.lanes l).waiting ≡ []) → waiting_in m ≡ 0)
+
+-- A push takes the blocks of its message.
+abbrev pub PushAddsBlocks : Type 0
+PushAddsBlocks = (m : Meaning) (l : Lane) (bytes : List ℕ) → has_lane m l ≡ true → blocks_in (pushed l bytes m) ≡ blocks_in m + blocks_of (length bytes)
+
+-- Where a lane loses its head, the blocks of its message are free again.
+abbrev pub AckFreesBlocks : Type 0
+AckFreesBlocks = (m : Meaning) (l : Lane) → has_lane m l ≡ true → blocks_in m ≡ blocks_in (popped l m) + blocks_of (length (head_bytes (m.lanes l)))
+
+-- Where no message waits, none takes a block.
+abbrev pub NoBlocksWhereNoneWaits : Type 0
+NoBlocksWhereNoneWaits = (m : Meaning) → waiting_in m ≡ 0 → blocks_in m ≡ 0

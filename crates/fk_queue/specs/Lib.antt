@@ -1,7 +1,9 @@
 pub mod Answers
+pub mod Keeping
 pub mod Lanes
 pub mod Laws
 pub mod Letters
 pub mod Meaning
 pub mod Places
 pub mod Posts
+pub mod Slips

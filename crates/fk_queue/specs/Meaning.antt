@@ -1,6 +1,8 @@
 -- What a post means: the state of each lane; whether the next call fails, and how often one failed.
-use Rattle.std.specs.Prelude.{ℕ, zero, suc, ◌+◌, Bool, true, false, if◌then◌else◌, List, length}
+use Rattle.std.specs.Prelude.{ℕ, zero, suc, ◌+◌, Bool, true, false, if◌then◌else◌, List, [], ◌∷◌, length}
 use Rattle.fk_base.specs.Faults.{one_more}
+use Rattle.fk_region.specs.Kept.{blocks_of}
+use Rattle.fk_queue.specs.declared.letter.Letter.{Letter}
 use Rattle.fk_queue.specs.declared.lane.Lane.{Lane}
 use Rattle.fk_queue.specs.declared.lane.Lane.TheVariants as lane
 use Rattle.fk_queue.specs.Lanes.{is_lane, same_lane}
@@ -21,8 +23,8 @@ has_lane m l = is_lane m.sessions l
 abbrev pub new_post : ℕ → Meaning
 new_post sessions = record { sessions = sessions; lanes = λ l. empty_lane; armed = false; faults = 0 }
 
--- the lanes, with this state in one of them
-abbrev pub with_lane : Lane → LaneState → (Lane → LaneState) → Lane → LaneState
+-- the lanes, with this in one of them
+abbrev pub with_lane : {X : Type 0} → Lane → X → (Lane → X) → Lane → X
 with_lane l s lanes q = if same_lane q l then s else lanes q
 
 -- the message stands at the end of the lane
@@ -59,10 +61,27 @@ sum_to (suc n) f = sum_to n f + f (suc n)
 abbrev pub length_of : LaneState → ℕ
 length_of s = length s.waiting
 
--- how many messages wait in the lanes of so many sessions and those that every post has
+-- the sum of f over the lanes of so many sessions and those that every post has
+abbrev pub over_lanes : ℕ → (Lane → ℕ) → ℕ
+over_lanes sessions f = f lane.Leader + f lane.Watch + sum_to sessions (λ s. f (lane.Session s) + f (lane.Inbox s))
+
+-- how many messages wait in these lanes
 abbrev pub waiting_among : ℕ → (Lane → LaneState) → ℕ
-waiting_among sessions lanes = length_of (lanes lane.Leader) + length_of (lanes lane.Watch) + sum_to sessions (λ s. length_of (lanes (lane.Session s)) + length_of (lanes (lane.Inbox s)))
+waiting_among sessions lanes = over_lanes sessions (λ l. length_of (lanes l))
 
 -- how many messages wait in all lanes
 abbrev pub waiting_in : Meaning → ℕ
 waiting_in m = waiting_among m.sessions m.lanes
+
+-- how many blocks of 256 bytes the messages take, each by itself
+abbrev pub blocks_for : List Letter → ℕ
+blocks_for [] = 0
+blocks_for (x ∷ xs) = blocks_of (length x.bytes) + blocks_for xs
+
+-- how many blocks the messages in these lanes take
+abbrev pub blocks_among : ℕ → (Lane → LaneState) → ℕ
+blocks_among sessions lanes = over_lanes sessions (λ l. blocks_for (lanes l).waiting)
+
+-- how many blocks the messages in all lanes take
+abbrev pub blocks_in : Meaning → ℕ
+blocks_in m = blocks_among m.sessions m.lanes

@@ -1,6 +1,6 @@
 //! Laws of what a post means. Each function does nothing; its contract is the law.
 
-ghost use Rattle.fk_queue.specs.Laws.{AckTakesOne, NoneWaitsWhereEmpty, OthersStay, PushAddsOne, SameLaneIsEqual, SessionsStay};
+ghost use Rattle.fk_queue.specs.Laws.{AckFreesBlocks, AckTakesOne, NoBlocksWhereNoneWaits, NoneWaitsWhereEmpty, OthersStay, PushAddsBlocks, PushAddsOne, SameLaneIsEqual, SessionsStay};
 
 /// A law: the test for the same lane is exact.
 pub fn same_lane_is_equal()
@@ -30,4 +30,19 @@ pub fn ack_takes_one()
 /// A law: no message waits exactly where each lane is empty.
 pub fn none_waits_where_empty()
     ensures { NoneWaitsWhereEmpty }
+{}
+
+/// A law: a push takes the blocks of its message.
+pub fn push_adds_blocks()
+    ensures { PushAddsBlocks }
+{}
+
+/// A law: where a lane loses its head, the blocks of its message are free again.
+pub fn ack_frees_blocks()
+    ensures { AckFreesBlocks }
+{}
+
+/// A law: where no message waits, none takes a block.
+pub fn no_blocks_where_none_waits()
+    ensures { NoBlocksWhereNoneWaits }
 {}

@@ -1,3 +1,4 @@
 pub mod Commits
 pub mod Fitting
+pub mod Placing
 pub mod Verdicts

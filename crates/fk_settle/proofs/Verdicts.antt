@@ -2,6 +2,7 @@
 use Rattle.std.proofs.Common.{◌≡◌, ◌≤◌, ℕ, suc, ◌+◌, ◌-◌, Bool, true, false, cond, List, [], ◌∷◌, Option, Some, None, refl, sym, ◌∙◌, ap, arith}
 use Rattle.std.specs.Prelude.{is_some, ◌==◌}
 use Rattle.std.proofs.lemmas.Bool.Decides.{nat_tests}
+use Rattle.std.proofs.lemmas.Bool.{eq-eqb}
 use Rattle.fk_base.specs.Path.{PathNames}
 use Rattle.fk_store.specs.Answers.{IsTransact, after_transact}
 use Rattle.fk_store.specs.Conds.{Miss, are_fit_conds, first_missed, found_at, holds_cond, missed_from, session_of}
@@ -40,9 +41,6 @@ missed_behind i t (c ∷ cs) m e = step (holds_cond t c) e (missed_behind (suc i
 apart : (i place : ℕ) → suc i ≤ place → (place == i) ≡ false
 apart i place l = grind (arith, nat_tests)
 
-itself : (i : ℕ) → (i == i) ≡ true
-itself i = grind (arith, nat_tests)
-
 -- a place behind the first
 later : (i : ℕ) (p : PathNames) (ps : List PathNames) (place : ℕ) (f : Found) → suc i ≤ place → found_from i (p ∷ ps) place f ≡ found_from (suc i) ps place f
 later i p ps place (found.Number n) l = refl
@@ -55,7 +53,7 @@ hold_verdict i t inv (p ∷ ps) = step (is_held_by inv (lock_of t p)) (missed_fr
     step : (b : Bool) (o : Option Miss) → ((m : Miss) → o ≡ Some m → suc i ≤ m.place) → missed_as (suc i) ps o ≡ verdict_on (first_passed inv t ps) → missed_as i (p ∷ ps) (cond b o (Some (record { place = i; found = found.Lock (lock_of t p) }))) ≡ verdict_on (cond b (first_passed inv t ps) (Some (passed_on p (lock_of t p))))
     step true None l h = h
     step true (Some m) l h = later i p ps m.place m.found (l m refl) ∙ h
-    step false o l h = rw (itself i) refl
+    step false o l h = rw (eq-eqb i i refl) refl
 
 -- request k is the next to settle
 pub next_is : (n k : ℕ) → 1 ≤ k → (n == (k - 1)) ≡ (n + 1 == k)

@@ -4,7 +4,7 @@ use Rattle.std.specs.Fmt.{digits}
 use Rattle.base64.specs.Rfc4648.{encode_symbols}
 use Rattle.serde_json.proofs.OnLiterals.{serde_json_on_literals}
 use Rattle.fk_stand.specs.Outcomes.{EvictionIsTold, LossIsTold, PartsAreSaid, RefusalIsTold}
-use Rattle.fk_stand.specs.Worked.{CreateIsPushed, CreateIsSent, CreateIsTold, WatchIsTold}
+use Rattle.fk_stand.specs.Worked.{CreateIsPushed, CreateIsSent, CreateIsTold, CreateTakesABlock, WatchIsTold}
 
 pub create_sent : CreateIsSent
 unfolding serde_json_on_literals digits encode_symbols
@@ -17,6 +17,10 @@ create_pushed = refl
 pub create_told : CreateIsTold
 unfolding serde_json_on_literals digits
 create_told = refl
+
+pub create_blocks : CreateTakesABlock
+unfolding serde_json_on_literals digits encode_symbols
+create_blocks = (refl, refl)
 
 pub watch_told : WatchIsTold
 unfolding serde_json_on_literals digits

@@ -1,2 +1,3 @@
+pub mod Acks
 pub mod Counting
 mod Evaluated

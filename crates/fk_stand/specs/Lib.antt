@@ -6,3 +6,4 @@ pub mod Stores
 pub mod Standing
 pub mod Worked
 pub mod Outcomes
+pub mod Acks

@@ -1,5 +1,5 @@
 -- What the user storage and the table of watches hold after a history.
-use Rattle.std.specs.Prelude.{ℕ, ◌==◌, false, if◌then◌else◌, List, [], ◌∷◌, option_map, Option, Some, None}
+use Rattle.std.specs.Prelude.{ℕ, false, List, option_map}
 use Rattle.fk_print.specs.declared.entry.Entry.{Entry}
 use Rattle.fk_user.specs.Meaning as user
 use Rattle.fk_watch.specs.declared.watch.Watch.{Watch}
@@ -10,6 +10,7 @@ use Rattle.fk_spec.specs.Settling.{mark_of, swept_of}
 use Rattle.fk_spec.specs.Stored.{record_of, stamp_of}
 use Rattle.fk_spec.specs.Watches as rules
 use Rattle.fk_spec.specs.Watches.{fired_watches, firing_with, given_of, last_sweep, published_epoch, set_watches}
+use Rattle.fk_spec.specs.WatchNumbers.{watch_with}
 
 -- What the user storage holds after a history: for each path the node that the commits up to its stamp leave there,
 -- the mark, and the epoch of the last publication. It is calm, and its calls failed so many times.
@@ -27,11 +28,6 @@ watch_as w = record { session = w.session; path = w.path; kind = w.kind }
 
 abbrev pub firing_as : rules.Firing → Firing
 firing_as f = record { watch = watch_as f.watch; tx = f.tx; change = f.change }
-
--- the watch of this number
-abbrev pub watch_with : ℕ → List rules.Watch → Option rules.Watch
-watch_with id [] = None
-watch_with id (w ∷ ws) = if w.id == id then Some w else watch_with id ws
 
 -- What the table of watches holds after a history: how many numbers were given, the set watches and those that
 -- fired and aren't told by their numbers, the last sweep, and the last one of each path. It is calm, and its calls

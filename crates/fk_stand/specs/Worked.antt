@@ -7,6 +7,7 @@ use Rattle.fk_tree.specs.declared.node.Node.{Node}
 use Rattle.fk_print.specs.declared.entry.Entry.{Entry}
 use Rattle.fk_queue.specs.declared.lane.Lane.TheVariants as lane
 use Rattle.fk_queue.specs.Letters.{LaneState}
+use Rattle.fk_queue.specs.Meaning.{blocks_in}
 use Rattle.fk_store.specs.declared.outcome.Outcome.TheVariants as kept
 use Rattle.fk_store.specs.declared.session_record.SessionRecord.{SessionRecord}
 use Rattle.fk_watch.specs.declared.watch.Watch.{Watch}
@@ -14,7 +15,7 @@ use Rattle.fk_spec.specs.Plan.{Plan, plan_of}
 use Rattle.fk_spec.specs.OwnWatch as own_watch
 use Rattle.fk_spec.specs.Scenarios.{creating, create_entries}
 use Rattle.fk_stand.specs.Tables.{node_record, session_record, has_record}
-use Rattle.fk_stand.specs.Posts.{lane_after}
+use Rattle.fk_stand.specs.Posts.{lane_after, post_after}
 use Rattle.fk_stand.specs.Stores.{store_after, watches_after}
 
 -- ---- a client creates `/x` with `hi`
@@ -54,6 +55,10 @@ LanesAreEmptied = (lane_after making (lane.Session 1) create_entries ≡ given_a
     × (lane_after making lane.Leader create_entries ≡ given_and_empty 1)
     × (lane_after making lane.Watch create_entries ≡ given_and_empty 0)
     × (lane_after making (lane.Inbox 1) create_entries ≡ given_and_empty 1)
+
+-- the request that was sent takes a block of the queues' region; in the end no message takes one
+abbrev pub CreateTakesABlock : Type 0
+CreateTakesABlock = (blocks_in (post_after making (made_up_to 19) 0) ≡ 1) × (blocks_in (post_after making create_entries 0) ≡ 0)
 
 abbrev pub settled_with : List ℕ → SessionRecord
 settled_with pending = record { settled = 1; outcome = kept.Applied 1; last = 1; closed = false; pending = pending; ping = 0; ping_at = 0; pong = 0 }

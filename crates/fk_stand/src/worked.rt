@@ -1,7 +1,7 @@
 //! What the services hold in worked runs, evaluated.
 
 ghost use Rattle.fk_stand.specs.Outcomes.{EvictionIsKept, EvictionIsTold, LossIsKept, LossIsTold, PartsAreSaid, RefusalIsKept, RefusalIsTold};
-ghost use Rattle.fk_stand.specs.Worked.{CreateIsCommitted, CreateIsPublished, CreateIsPushed, CreateIsSent, CreateIsTold, LanesAreEmptied, WatchFires, WatchIsTold};
+ghost use Rattle.fk_stand.specs.Worked.{CreateIsCommitted, CreateIsPublished, CreateIsPushed, CreateIsSent, CreateIsTold, CreateTakesABlock, LanesAreEmptied, WatchFires, WatchIsTold};
 
 /// A create waits in its session's lane.
 #[tactic(auto, using(crate::proofs::Evaluated::create_sent))]
@@ -24,6 +24,12 @@ pub fn create_is_told()
 /// At the end each lane is empty and has counted its messages.
 pub fn lanes_are_emptied()
     ensures { LanesAreEmptied }
+{}
+
+/// A create that waits takes a block of memory; at the end none is taken.
+#[tactic(auto, using(crate::proofs::Evaluated::create_blocks))]
+pub fn create_takes_a_block()
+    ensures { CreateTakesABlock }
 {}
 
 /// The table's records before and after the commit.

@@ -29,7 +29,7 @@ apart ws m = record {
   faults = m.faults;
 }
 
-map_same : {A : Type 0} (o : Option A) → o ≡ map_some (λ x. x) o
+pub map_same : {A : Type 0} (o : Option A) → o ≡ map_some (λ x. x) o
 map_same None = refl
 map_same (Some x) = refl
 
@@ -37,7 +37,7 @@ map_twice : {A : Type 0} (f g : A → A) (o : Option A) → map_some g (map_some
 map_twice f g None = refl
 map_twice f g (Some x) = refl
 
-written_apart : (ws : List Write) (m : Meaning) → apart ws m ≡ all_written ws m
+pub written_apart : (ws : List Write) (m : Meaning) → apart ws m ≡ all_written ws m
 written_apart [] m = same_meaning (apart [] m) m (λ p. refl) (λ s. sym (map_same (m.sessions s))) refl refl refl
 written_apart (w ∷ ws) m =
     same_meaning (apart (w ∷ ws) m) (apart ws (written w m)) (λ p. refl) (λ s. sym (map_twice (session_after w s) (session_written s ws) (m.sessions s))) refl refl refl

@@ -1,8 +1,8 @@
 -- What the answers of a table's calls say of the table before the call, and what it means after it.
-use Rattle.std.specs.Prelude.{◌≡◌, ℕ, ◌==◌, Bool, true, false, List, Option, Some, None}
+use Rattle.std.specs.Prelude.{◌≡◌, ℕ, Bool, true, false, List, Option, Some, None}
 use Rattle.fk_base.specs.Path.{PathNames, path_cmp}
 use Rattle.fk_tree.specs.Sorted.{has_path, rises}
-use Rattle.fk_tree.specs.declared.node.Node.{Node}
+use Rattle.fk_tree.specs.Rows.{is_of}
 use Rattle.fk_store.specs.declared.answer.Seen.{Seen}
 use Rattle.fk_store.specs.declared.answer.Seen.TheVariants as seen
 use Rattle.fk_store.specs.declared.answer.Owned.{Owned}
@@ -32,14 +32,10 @@ IsSessionSeen m s (seen.Here r) = (m.armed ≡ false) × (m.sessions s ≡ Some 
 IsSessionSeen m s seen.Missing = (m.armed ≡ false) × (m.sessions s ≡ None)
 IsSessionSeen m s seen.Failed = m.armed ≡ true
 
-abbrev pub node_has_owner : ℕ → Option Node → Bool
-node_has_owner s None = false
-node_has_owner s (Some n) = n.owner == s
-
 -- whether a record has a node of this owner
 abbrev pub has_owner : ℕ → Option NodeRecord → Bool
 has_owner s None = false
-has_owner s (Some r) = node_has_owner s r.node
+has_owner s (Some r) = is_of s r.node
 
 -- the paths whose node has this owner, in path order
 pub record AreOwned (m : Meaning) (s : ℕ) (ps : List PathNames) : Type 0 where

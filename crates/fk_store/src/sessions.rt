@@ -72,8 +72,8 @@ fn numbers_without(alloc: Global, numbers: &[u64], number: u64) -> Result<Number
     Ok(left)
 }
 
-// makes a write in the record of its session
-fn write_session(alloc: Global, kept: &mut SessionRecord, write: &Write) -> Result<(), NoMemory>
+/// Makes a write in the record of its session.
+pub fn write_session(alloc: Global, kept: &mut SessionRecord, write: &Write) -> Result<(), NoMemory>
     ensures { OnOk result (kept.new ≡ session_by write.now kept.old) }
 {
     match write {

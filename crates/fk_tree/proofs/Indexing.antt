@@ -3,24 +3,21 @@ use Rattle.std.proofs.Common.{◌≡◌, Bool, true, false, cond, not, ◌||◌,
 use Rattle.std.proofs.lemmas.Bool.{false≢true}
 use Rattle.std.specs.BTreeMap.{is_at}
 use Rattle.std.specs.BTreeSet.{BTreeSet, contains}
+use Rattle.std.proofs.Math.Bool.{or_assoc}
 use Rattle.fk_base.specs.Path.{PathNames, path_cmp, same_path}
 use Rattle.fk_tree.specs.declared.change.Change.{Change}
 use Rattle.fk_tree.specs.declared.change.Change.TheVariants as change
 use Rattle.fk_tree.specs.declared.change.Touch.{Touch}
 use Rattle.fk_tree.specs.declared.touch_set.TouchSet.{TouchSet}
 use Rattle.fk_tree.specs.Touch.{same_change, same_touch}
-use Rattle.fk_tree.specs.Touching.{all_put, is_indexed, is_there, put_one, set_of, IsNoted}
-use Rattle.fk_tree.proofs.Gathering.{all_both, same_touch_is}
+use Rattle.fk_tree.specs.Touching.{is_indexed, is_there, put_one, set_of, IsNoted}
+use Rattle.fk_tree.proofs.Gathering.{same_touch_is}
 use Rattle.fk_tree.proofs.Looking.{same_flip}
 use Rattle.fk_tree.proofs.Order.{by_test}
 
 or_false : (a : Bool) → (a || false) ≡ a
 or_false true = refl
 or_false false = refl
-
-or_assoc : (a b c : Bool) → ((a || b) || c) ≡ (a || (b || c))
-or_assoc true b c = refl
-or_assoc false b c = refl
 
 -- one touch more at the end is found besides those that were
 there_more : (t u : Touch) (us : List Touch) → is_there t (us ++ u ∷ []) ≡ (is_there t us || same_touch t u)

@@ -1,26 +1,26 @@
-mod Alike
+pub mod Alike
 mod Creating
 pub mod Deletes
 pub mod Editing
 mod Gathering
 mod Indexing
-mod Keeping
+pub mod Keeping
 mod Listing
-mod Looking
+pub mod Looking
 mod Notes
 pub mod Order
-mod Owning
+pub mod Owning
 pub mod Parents
 mod Parting
-mod Passing
+pub mod Passing
 mod Refusing
 pub mod Rising
 mod Samples
 mod Seeking
 mod Showing
 mod Sorting
-mod Standing
-mod Starting
+pub mod Standing
+pub mod Starting
 pub mod Views
 mod Whole
 mod Written

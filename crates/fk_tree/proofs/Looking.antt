@@ -1,6 +1,6 @@
 -- An ordered map of slots: what is found, put and taken out there, path by path.
 use Rattle.std.proofs.Common.{◌≡◌, Bool, true, false, cond, ◌||◌, List, [], ◌∷◌, Option, Some, None, refl, sym, ◌∙◌, ap}
-use Rattle.std.specs.Prelude.{is_some, IsSome, Result, Ok, Err, OnOk, OnErr}
+use Rattle.std.specs.Prelude.{is_some, IsSome}
 use Rattle.std.specs.BTreeMap as tree
 use Rattle.std.specs.BTreeMap.{BTreeMap, is_at, WritesThrough}
 use Rattle.std.specs.Map.{lookup}
@@ -108,11 +108,3 @@ same_written m k l o v e w s q =
 
 pub rows_written : (m : Slots) (k : PathNames) (l : Option Node → Slots) (o v : Option Node) → Some o ≡ tree.get path_cmp m k → IsWritten m k l → (q : PathNames) → has_row q (l v).entries ≡ has_row q m.entries
 rows_written m k l o v e w = kept_row m (l v) k v (row_there k m.entries ∙ sym (ap is_some e)) ((w v).3 (sym (ap is_some e))).0
-
-pub ok_so : {T E : Type 0} {A B : Type 0} (r : Result T E) → OnOk r A → (A → B) → OnOk r B
-ok_so (Ok x) a f = f a
-ok_so (Err x) a f = a
-
-pub err_so : {T E : Type 0} {A B : Type 0} (r : Result T E) → OnErr r A → (A → B) → OnErr r B
-err_so (Ok x) a f = a
-err_so (Err x) a f = f a

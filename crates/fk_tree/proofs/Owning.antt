@@ -14,7 +14,7 @@ use Rattle.fk_tree.specs.Rows.{is_free, is_of}
 use Rattle.fk_tree.proofs.Order.{by_test, tested, tested_left, tested_right, path_total, path_exact, same_path_is}
 use Rattle.fk_tree.proofs.Rising.{same_rising}
 
-abbrev owner_is : ℕ → Option Bare → Bool
+abbrev pub owner_is : ℕ → Option Bare → Bool
 owner_is s None = false
 owner_is s (Some b) = eqb b.owner s
 
@@ -30,7 +30,7 @@ below_none : (p : PathNames) (es : List (PathNames × Bare)) → T (below_all pa
 below_none p [] b = refl
 below_none p (e ∷ es) b = rw (not_tied p e.0 (tested _ (tested_left _ _ b))) (below_none p es (tested_right _ _ b))
 
-owned_has_in : (s : ℕ) (p : PathNames) (es : List (PathNames × Bare)) → T (is_sorted path_cmp es) → has_path p (owned_in s es) ≡ owner_is s (find path_cmp p es)
+pub owned_has_in : (s : ℕ) (p : PathNames) (es : List (PathNames × Bare)) → T (is_sorted path_cmp es) → has_path p (owned_in s es) ≡ owner_is s (find path_cmp p es)
 owned_has_in s p [] h = refl
 owned_has_in s p (e ∷ es) h = step (owned_has_in s p es (tested_right _ _ h)) (eqb (e.1).owner s) refl (same_path p e.0) refl
   where
@@ -44,7 +44,7 @@ below_owned : (s : ℕ) (p : PathNames) (es : List (PathNames × Bare)) → T (b
 below_owned s p [] h = refl
 below_owned s p (e ∷ es) h = by_test (eqb (e.1).owner s) (λ c. is_below path_cmp p (cond c (e.0 ∷ owned_in s es) (owned_in s es)) ≡ true) (λ _. let l : is_lt (path_cmp p e.0) ≡ true = tested _ (tested_left _ _ h) in rw l (below_owned s p es (tested_right _ _ h))) (λ _. below_owned s p es (tested_right _ _ h))
 
-owned_rises_in : (s : ℕ) (es : List (PathNames × Bare)) → T (is_sorted path_cmp es) → rises path_cmp (owned_in s es) ≡ true
+pub owned_rises_in : (s : ℕ) (es : List (PathNames × Bare)) → T (is_sorted path_cmp es) → rises path_cmp (owned_in s es) ≡ true
 owned_rises_in s [] h = refl
 owned_rises_in s (e ∷ es) h = by_test (eqb (e.1).owner s) (λ c. rises path_cmp (cond c (e.0 ∷ owned_in s es) (owned_in s es)) ≡ true) (λ _. let l : is_below path_cmp e.0 (owned_in s es) ≡ true = below_owned s e.0 es (tested_left _ _ h) in rw l (owned_rises_in s es (tested_right _ _ h))) (λ _. owned_rises_in s es (tested_right _ _ h))
 

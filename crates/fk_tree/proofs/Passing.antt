@@ -99,7 +99,7 @@ pub passed_delete : (t : Nodes) (p : PathNames) (expected : ℤ) → check_delet
 passed_delete t p expected e = no_child_there t p (passed_there p expected (node_view t p) e) (passed_names p expected (node_view t p) e)
 
 -- the final path of a create under a node is a child of the same parent
-parent_child : (p : PathNames) (n : Name) → parent (p ++ n ∷ []) ≡ p
+pub parent_child : (p : PathNames) (n : Name) → parent (p ++ n ∷ []) ≡ p
 parent_child [] n = refl
 parent_child (m ∷ []) n = refl
 parent_child (m ∷ k ∷ p) n = ap (λ q. m ∷ q) (parent_child (k ∷ p) n)
@@ -108,7 +108,7 @@ pub final_parent : (p : PathNames) (seq : Bool) (made : ℕ) → parent (final_p
 final_parent p true made = parent_child (parent p) (last_name p ++ digits made)
 final_parent p false made = refl
 
-child_root : (p : PathNames) (n : Name) → is_root (p ++ n ∷ []) ≡ false
+pub child_root : (p : PathNames) (n : Name) → is_root (p ++ n ∷ []) ≡ false
 child_root [] n = refl
 child_root (m ∷ p) n = refl
 

@@ -1,14 +1,14 @@
 -- Rising lists: their members, and what is put in and taken out, in any order of the items.
-use Rattle.std.proofs.Common.{◌≡◌, Bool, true, false, cond, ◌||◌, List, [], ◌∷◌, Ordering, refl, sym, ◌∙◌, ap, subst, arith}
+use Rattle.std.proofs.Common.{◌≡◌, true, false, cond, ◌||◌, List, [], ◌∷◌, Ordering, refl, sym, ◌∙◌, ap, subst, arith}
 use Rattle.std.specs.declared.cmp.Ordering.TheVariants.{Less, Equal, Greater}
 use Rattle.std.specs.Ordering.{is_eq, is_lt, ordering_reverse}
-use Rattle.std.specs.Cmp.{IsTotalOrder, Equal-is, tied_itself}
+use Rattle.std.specs.Cmp.{IsTotalOrder, Equal-is, tied_itself, both_ways}
 use Rattle.std.specs.FinMap.{IsAntisymmetric}
-use Rattle.std.proofs.lemmas.Bool.{false≢true}
+use Rattle.std.proofs.lemmas.Bool.{false≢true, false_from_ne_true}
 use Rattle.fk_tree.specs.Sorted.{has, with_key, without_key, is_below, rises}
 use Rattle.fk_tree.proofs.Order.{and_left, and_right}
 
-less : (o : Ordering) → is_lt o ≡ true → o ≡ Less
+pub less : (o : Ordering) → is_lt o ≡ true → o ≡ Less
 less Less e = refl
 less Equal e = absurd (false≢true e)
 less Greater e = absurd (false≢true e)
@@ -22,15 +22,6 @@ reversed_less : (o : Ordering) → is_eq o ≡ false → is_lt o ≡ false → i
 reversed_less Less e l = sym l
 reversed_less Equal e l = sym e
 reversed_less Greater e l = refl
-
-refuted : (b : Bool) → (b ≡ true → ⊥) → b ≡ false
-refuted true f = absurd (f refl)
-refuted false f = refl
-
-same_bool : (a b : Bool) → (a ≡ true → b ≡ true) → (b ≡ true → a ≡ true) → a ≡ b
-same_bool true b f g = sym (f refl)
-same_bool false true f g = g refl
-same_bool false false f g = refl
 
 module _ {K : Type 0} {R : K → K → Ordering} (o : IsTotalOrder R) (exact : IsAntisymmetric R) where
   tied : (n m : K) → is_eq (R n m) ≡ true → n ≡ m
@@ -50,7 +41,7 @@ module _ {K : Type 0} {R : K → K → Ordering} (o : IsTotalOrder R) (exact : I
 
   -- a member isn't below the first
   not_below : (n m : K) (ms : List K) → rises R (m ∷ ms) ≡ true → has R n (m ∷ ms) ≡ true → is_lt (R n m) ≡ false
-  not_below n m ms r h = refuted (is_lt (R n m)) (λ e. false≢true (sym (below_absent n (m ∷ ms) (rw e (below_further n m ms e (and_left _ _ r)))) ∙ h))
+  not_below n m ms r h = false_from_ne_true (is_lt (R n m)) (λ e. false≢true (sym (below_absent n (m ∷ ms) (rw e (below_further n m ms e (and_left _ _ r)))) ∙ h))
 
   has_first : (n : K) (ns : List K) → has R n (n ∷ ns) ≡ true
   has_first n ns = rw (ap is_eq (tied_itself o n)) refl
@@ -58,7 +49,7 @@ module _ {K : Type 0} {R : K → K → Ordering} (o : IsTotalOrder R) (exact : I
   -- a member of the rest isn't the first, so it is in the rest of the other
   rest_has : (k n : K) (ns ms : List K) → is_below R n ns ≡ true → (has R k (n ∷ ns) ≡ has R k (n ∷ ms)) → has R k ns ≡ true → has R k ms ≡ true
   rest_has k n ns ms b h s =
-      let other : is_eq (R k n) ≡ false = refuted (is_eq (R k n)) (λ e. false≢true (sym (below_absent n ns b) ∙ subst (λ x. has R x ns ≡ true) (tied k n e) s)) in
+      let other : is_eq (R k n) ≡ false = false_from_ne_true (is_eq (R k n)) (λ e. false≢true (sym (below_absent n ns b) ∙ subst (λ x. has R x ns ≡ true) (tied k n e) s)) in
       let all : has R k ns ≡ has R k ms = rw other at h in
       sym all ∙ s
 
@@ -73,7 +64,7 @@ module _ {K : Type 0} {R : K → K → Ordering} (o : IsTotalOrder R) (exact : I
       let e : m ≡ n = sym (exact n m (neither (R n m) low (sym (ap is_lt (o.antisymm m n)) ∙ high))) in
       let g : (k : K) → has R k (n ∷ ns) ≡ has R k (n ∷ ms) = λ k. h k ∙ ap (λ x. has R k (x ∷ ms)) e in
       let b : is_below R n ms ≡ true = subst (λ x. is_below R x ms ≡ true) e (and_left _ _ r) in
-      ap (λ xs. n ∷ xs) (same_rising ns ms (and_right _ _ l) (and_right _ _ r) (λ k. same_bool _ _ (rest_has k n ns ms (and_left _ _ l) (g k)) (rest_has k n ms ns b (sym (g k))))) ∙ ap (λ x. x ∷ ms) (sym e)
+      ap (λ xs. n ∷ xs) (same_rising ns ms (and_right _ _ l) (and_right _ _ r) (λ k. both_ways _ _ (rest_has k n ns ms (and_left _ _ l) (g k)) (rest_has k n ms ns b (sym (g k))))) ∙ ap (λ x. x ∷ ms) (sym e)
 
   pub has_with : (k n : K) (ms : List K) → has R k (with_key R n ms) ≡ (is_eq (R k n) || has R k ms)
   has_with k n [] = refl

@@ -38,7 +38,7 @@ created t p bytes owner tx moment h r o f =
     (λ q. create_view t p q bytes owner tx moment h r taken, create_keeps t p bytes owner tx moment h r (sym (free_view t (parent p)) ∙ o) taken)
 
 -- deletes, one after another
-deletes_view : (t : Nodes) (ps : List PathNames) (q : PathNames) (tx moment : ℕ) → node_view (delete_nodes ps tx t) q ≡ edited tx moment q (deletes_edits ps) (node_view t q)
+pub deletes_view : (t : Nodes) (ps : List PathNames) (q : PathNames) (tx moment : ℕ) → node_view (delete_nodes ps tx t) q ≡ edited tx moment q (deletes_edits ps) (node_view t q)
 deletes_view t [] q tx moment = refl
 deletes_view t (p ∷ ps) q tx moment = deletes_view (delete_node p tx t) ps q tx moment ∙ ap (edited tx moment q (deletes_edits ps)) (delete_view t p q tx moment) ∙ sym (edited_both tx moment q (delete_edits p) (deletes_edits ps) (node_view t q))
 

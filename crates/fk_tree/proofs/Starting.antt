@@ -11,10 +11,10 @@ use Rattle.fk_tree.proofs.Notes.{Sets}
 use Rattle.fk_tree.proofs.Order.{path_total, child_not_root}
 use Rattle.fk_tree.proofs.Views.{children_of}
 
-start_get : (q : PathNames) → get start_tree.nodes q ≡ cond (same_path q []) (Some root_node) None
+pub start_get : (q : PathNames) → get start_tree.nodes q ≡ cond (same_path q []) (Some root_node) None
 start_get q = get-insert path_total empty [] root_node q ∙ ap (cond (same_path q []) (Some root_node)) (get-empty path_cmp q)
 
-start_child : (q : PathNames) (n : Name) → is_some (get start_tree.nodes (q ++ n ∷ [])) ≡ false
+pub start_child : (q : PathNames) (n : Name) → is_some (get start_tree.nodes (q ++ n ∷ [])) ≡ false
 start_child q n = rw (start_get (q ++ n ∷ []), child_not_root q n) refl
 
 start_node : (q : PathNames) → cond (same_path q []) (Some (with_names [] root_node)) None ≡ node_view start_tree.nodes q

@@ -1,12 +1,12 @@
 -- What is put in place of a record.
 use Rattle.std.proofs.Common.{◌≡◌, ℕ, zero, suc, ◌+◌, ◌<◌, Bool, true, false, cond, List, [], ◌∷◌, Option, Some, length, drop, get_or, refl, sym, ◌∙◌, ap, arith, drop-cons}
-use Rattle.std.specs.Prelude.{Result, Ok, Err, OnOk, OnErr}
 use Rattle.std.specs.BTreeMap.{BTreeMap, get, is_at}
 use Rattle.fk_base.specs.Path.{PathNames, path_cmp, same_path}
 use Rattle.fk_tree.specs.Edit.{edit, edited}
 use Rattle.fk_tree.specs.declared.edit.Edit.{Edit}
 use Rattle.fk_tree.specs.declared.node.Node.{Node}
-use Rattle.fk_tree.proofs.Order.{and_left, and_right, by_test, same_path_is, same_path_self}
+use Rattle.fk_tree.proofs.Order.{and_left, and_right, by_test, same_path_is}
+use Rattle.fk_tree.proofs.Looking.{same_flip}
 use Rattle.fk_user.specs.declared.record.UserRecord.{UserRecord}
 use Rattle.fk_user.specs.declared.user_store.UserStore.{UserStore}
 use Rattle.fk_user.specs.Meaning.{Meaning, put_record, with_put}
@@ -16,12 +16,6 @@ use Rattle.fk_user.specs.Stored.{store_of}
 
 abbrev pub RecordMap : Type 0
 RecordMap = BTreeMap PathNames UserRecord
-
--- the same both ways
-same_flip : (p q : PathNames) → same_path p q ≡ same_path q p
-same_flip p q = by_test (same_path p q) (λ b. b ≡ same_path q p)
-    (λ e. rw (same_path_is p q e) (sym (same_path_self q)))
-    (λ e. by_test (same_path q p) (λ b. false ≡ b) (λ f. sym e ∙ rw (same_path_is q p f) (same_path_self p)) (λ _. refl))
 
 -- one path has this record, and the others keep theirs
 pub updated_record : (m n : RecordMap) (k : PathNames) (r : UserRecord) → ((q : PathNames) → get path_cmp n q ≡ cond (is_at (path_cmp k) q) (Some r) (get path_cmp m q))
@@ -53,15 +47,6 @@ put_after m n k tx moment es r a b q =
     b q ∙ by_test (same_path q k) (λ t. cond t r (record_in m.entries q) ≡ cond t (put_record k tx moment es (record_in m.entries q)) (record_in m.entries q))
     (λ s. a ∙ ap (λ x. put_record k tx moment es (record_in m.entries x)) (sym (same_path_is q k s)))
     (λ _. refl)
-
--- what follows where a call is done, or where it fails
-pub ok_so : {T E : Type 0} {A B : Type 0} (r : Result T E) → OnOk r A → (A → B) → OnOk r B
-ok_so (Ok x) a f = f a
-ok_so (Err x) a f = a
-
-pub err_so : {T E : Type 0} {A B : Type 0} (r : Result T E) → OnErr r A → (A → B) → OnErr r B
-err_so (Ok x) a f = a
-err_so (Err x) a f = f a
 
 -- WRITTEN WHERE IT STANDS
 -- the record of a path that was lent and written

@@ -6,11 +6,8 @@ use Rattle.std.specs.BTreeMap.{is_at, IsEmpty}
 use Rattle.std.specs.Ordering.{nat_cmp}
 use Rattle.fk_base.specs.Path.{PathNames, path_cmp, same_path}
 use Rattle.fk_tree.proofs.Order.{by_test, same_path_is, same_path_self}
+use Rattle.fk_tree.proofs.Looking.{same_flip}
 use Rattle.fk_watch.specs.Index.{Index, Numbers, has_place, number_at, number_in, KeepsNumbers}
-
--- the same both ways
-pub same_flip : (p q : PathNames) → same_path p q ≡ same_path q p
-same_flip p q = by_test (same_path p q) (λ b. b ≡ same_path q p) (λ e. rw (same_path_is p q e) (sym (same_path_self q))) (λ e. by_test (same_path q p) (λ b. false ≡ b) (λ f. sym e ∙ rw (same_path_is q p f) (same_path_self p)) (λ _. refl))
 
 -- one path has these numbers, and the others keep theirs
 abbrev pub IsUpdated : Index → Index → PathNames → Option Numbers → Type 0

@@ -1,6 +1,6 @@
 -- Set watches and their indexes through a change.
 use Rattle.std.proofs.Common.{◌≡◌, ℕ, ◌==◌, true, false, cond, List, Option, Some, None, refl, sym, ◌∙◌, ap, arith}
-use Rattle.std.specs.Prelude.{IfSome, IfNone, Result, Ok, Err, OnOk, OnErr}
+use Rattle.std.specs.Prelude.{IfSome, IfNone}
 use Rattle.std.specs.BTreeMap.{is_at}
 use Rattle.std.specs.Ordering.{nat_cmp}
 use Rattle.fk_base.specs.Path.{PathNames}
@@ -15,10 +15,6 @@ use Rattle.fk_watch.specs.Setting.{at, is_watch, numbered, HasNot, IsIndexed}
 
 pub same_number : (a b : ℕ) → is_at (nat_cmp a) b ≡ (b == a)
 same_number a b = grind arith
-
-pub err_so : {T E : Type 0} {A B : Type 0} (r : Result T E) → OnErr r A → (A → B) → OnErr r B
-err_so (Ok x) a f = a
-err_so (Err x) a f = f a
 
 -- THE TEST OF A WATCH
 pub same_kind_is : (j k : Kind) → same_kind j k ≡ true → j ≡ k
@@ -141,7 +137,3 @@ data_kept d c e h kind.Child p s = refl
 pub child_kept : (d c f : Index) → ((p : PathNames) (s : ℕ) → number_in f p s ≡ number_in c p s) → (k : Kind) (p : PathNames) (s : ℕ) → numbered d f k p s ≡ numbered d c k p s
 child_kept d c f h kind.Data p s = refl
 child_kept d c f h kind.Child p s = h p s
-
-pub ok_so : {T E : Type 0} {A B : Type 0} (r : Result T E) → OnOk r A → (A → B) → OnOk r B
-ok_so (Ok x) a f = f a
-ok_so (Err x) a f = a

@@ -176,9 +176,11 @@ impl Beat {
         requires lane { has_lane (post_of post.old) (lane.Inbox self.old.session) ≡ true }
         requires room { let inbox = (post_of post.old).lanes (lane.Inbox self.old.session) in
             inbox.given < 2 ^ 63 - 1 }
-        ensures op { IfOk result (λ o. o ≡ or_fault (post_of post.old).armed self.old.inv word.Ping
+        ensures op { IfOk result (λ o.
+            o ≡ or_fault (post_of post.old).armed self.old.inv word.Ping
             (op.Ping self.old.inv self.old.session)) }
-        ensures heartbeat { IfOk result (λ o. beat_of self.new ≡ next_with o (beat_of self.old)) }
+        ensures heartbeat { IfOk result (λ o.
+            beat_of self.new ≡ next_with o (beat_of self.old)) }
         ensures post { let text = tell_text version.Two (tell.Ping self.old.inv) in
             OnOk result (post_of post.new
             ≡ posted (lane.Inbox self.old.session) text (post_of post.old)) }
@@ -205,7 +207,8 @@ impl Beat {
         ensures op { let t = T.meaning table.old in
             IfOk result (λ o. o ≡ or_fault t.armed self.old.inv word.Note
             (note_op self.old.inv (session_of t self.old.session))) }
-        ensures heartbeat { IfOk result (λ o. beat_of self.new ≡ next_with o (beat_of self.old)) }
+        ensures heartbeat { IfOk result (λ o.
+            beat_of self.new ≡ next_with o (beat_of self.old)) }
         ensures table { let conds = note_conds self.old.inv self.old.session in
             let writes = note_writes self.old.inv self.old.session now in
             OnOk result (T.meaning table.new ≡ transacted conds writes (T.meaning table.old)) }
@@ -227,7 +230,8 @@ impl Beat {
     fn noted(&mut self, answer: Transact) -> Result<Op, NoMemory>
         ensures some { IfOk result (λ o. answer ≢ transact.NoMemory) }
         ensures op { IfOk result (λ o. o ≡ note_by self.old.inv answer) }
-        ensures heartbeat { IfOk result (λ o. beat_of self.new ≡ next_with o (beat_of self.old)) }
+        ensures heartbeat { IfOk result (λ o.
+            beat_of self.new ≡ next_with o (beat_of self.old)) }
     {
         let function = self.inv;
         self.state = BeatState::Ended;
@@ -259,7 +263,8 @@ impl Beat {
             let requests = q.lanes (lane.Session self.old.session) in
             IfOk result (λ o. o ≡ or_fault q.armed self.old.inv word.Evict
             (op.Evict self.old.inv (requests.given + 1))) }
-        ensures heartbeat { IfOk result (λ o. beat_of self.new ≡ next_with o (beat_of self.old)) }
+        ensures heartbeat { IfOk result (λ o.
+            beat_of self.new ≡ next_with o (beat_of self.old)) }
         ensures post { let text = sent_text version.Two evict_sent in
             OnOk result (post_of post.new
             ≡ posted (lane.Session self.old.session) text (post_of post.old)) }

@@ -55,7 +55,8 @@ fn fired_by(alloc: Global, fired: &Firings, tx: u64) -> Result<FiredList, NoMemo
 // the numbers of all that have fired
 fn epoch_of(alloc: Global, fired: &Firings) -> Result<IdSet, NoMemory>
     ensures rising { IfOk result (λ ids. ids_rise ids ≡ true) }
-    ensures exact { IfOk result (λ ids. (n : ℕ) → has_id n ids ≡ is_some (at n fired.now.entries)) }
+    ensures exact { IfOk result (λ ids.
+        (n : ℕ) → has_id n ids ≡ is_some (at n fired.now.entries)) }
 {
     let mut ids = IdSet::new(alloc);
     'listing: for number in fired.keys() {

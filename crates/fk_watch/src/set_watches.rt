@@ -76,7 +76,8 @@ impl SetWatches {
 
     /// The number of a session's watch of a path and kind.
     pub fn number_of(&self, session: u32, path: &Path, kind: Kind) -> Option<u64>
-        ensures some { IfSome result (λ n. at n self.now ≡ Some (watch_on session path.now kind)) }
+        ensures some { IfSome result (λ n.
+            at n self.now ≡ Some (watch_on session path.now kind)) }
         ensures none { IfNone result (HasNot (watch_on session path.now kind) self.now) }
     {
         match kind {

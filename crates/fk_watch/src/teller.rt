@@ -153,9 +153,11 @@ impl Teller {
         requires below { self.old.count < length self.old.note.fired }
         requires state { self.old.state ≡ TellerState.Tell }
         requires next { (teller_of self.old).stage ≡ telling self.old.note self.old.count fired }
-        ensures op { IfOk result (λ o. o ≡ or_fault (post_of post.old).armed self.old.inv word.Tell
+        ensures op { IfOk result (λ o.
+            o ≡ or_fault (post_of post.old).armed self.old.inv word.Tell
             (op.Tell self.old.inv fired.session fired.id)) }
-        ensures teller { IfOk result (λ o. teller_of self.new ≡ next_with o (teller_of self.old)) }
+        ensures teller { IfOk result (λ o.
+            teller_of self.new ≡ next_with o (teller_of self.old)) }
         ensures post { let text = tell_text version.Two (tell.Watch self.old.note.tx fired) in
             OnOk result (post_of post.new
             ≡ posted (lane.Inbox fired.session) text (post_of post.old)) }

@@ -1,39 +1,52 @@
-use Rattle.std.proofs.Common.{◌+◌, sym, ◌∙◌, ap, subst}
-use Rattle.fk_queue.specs.declared.lane.Lane.{Lane}
-use Rattle.fk_queue.specs.Letters.{IsNumbered, LaneState, with_letter}
-use Rattle.fk_queue.specs.Meaning.{waiting_among}
-use Rattle.fk_queue.specs.Places.{lanes_of}
+use Rattle.std.proofs.Common.{◌+◌, set, ap}
+use Rattle.fk_queue.specs.Letters.{with_letter}
+use Rattle.fk_queue.specs.Places.{lanes_of, slips_of}
 use Rattle.fk_queue.specs.Posts.{post_of}
-use Rattle.fk_queue.proofs.Counting.{push_adds_one}
-use Rattle.fk_queue.proofs.Numbering.{numbered_more, numbered_write}
-use Rattle.fk_queue.proofs.Standing.{placed, wrote_lane}
+use Rattle.fk_queue.proofs.Changing.{Changes, Keeps, kept_by, pushed_at, unchanged_at}
 use Rattle.fk_queue.proofs.post.Post.add.Goals as goal
 
-pub invariant_of-self-2-clause-counted : goal.invariant_of-self-2-clause-counted
+changes : (c : goal.In-Ok) → let p = c.args.self.now in Changes p.sessions (p.waiting + 1) c.args.lane (with_letter c.args.message.now (lanes_of p.sessions p.queues.items p.region.kept c.args.lane)) (slips_of p.sessions p.queues.items) (slips_of p.sessions (set p.queues.items c.place_of.result c.push.new.self)) p.region.kept c.push.new.region.kept
 unfolding post_of
-invariant_of-self-2-clause-counted c =
-    let old = c.args.self.now in
-    let lane = lanes_of old.sessions old.queues.items c.args.lane in
-    let states = placed old.sessions old.queues.items c.args.lane (with_letter c.args.message.now) c.place_of.result c.index_mut.result.now c.push.new.self c.requires.lane old.sized c.place_of.ensures c.index_mut.ensures.value c.in_ok-number.ensures.ok in
-    let lanes = wrote_lane old.sessions old.queues.items _ c.args.lane (with_letter c.args.message.now lane) c.requires.lane old.sized states in
-    ap (λ n. n + 1) old.counted
-    ∙ sym (push_adds_one old.sessions (lanes_of old.sessions old.queues.items) c.args.lane c.args.message.now c.requires.lane)
-    ∙ sym (ap (waiting_among old.sessions) lanes)
+changes c = let p = c.args.self.now in pushed_at p.sessions p.waiting p.queues.items c.args.lane c.place_of.result c.args.message.now c.index_mut.result.now c.push.new.self p.region.kept c.push.new.region.kept c.requires.lane p.sized c.place_of.ensures c.index_mut.ensures.value c.in-Ok.ensures.ok (kept_by p)
 
-pub invariant_of-self-2-clause-numbered : goal.invariant_of-self-2-clause-numbered
+pub invariant_of-self-clause-counted : goal.invariant_of-self-clause-counted
 unfolding post_of
-invariant_of-self-2-clause-numbered c =
-    let old = c.args.self.now in
-    let lane = lanes_of old.sessions old.queues.items c.args.lane in
-    let states = placed old.sessions old.queues.items c.args.lane (with_letter c.args.message.now) c.place_of.result c.index_mut.result.now c.push.new.self c.requires.lane old.sized c.place_of.ensures c.index_mut.ensures.value c.in_ok-number.ensures.ok in
-    let lanes = wrote_lane old.sessions old.queues.items _ c.args.lane (with_letter c.args.message.now lane) c.requires.lane old.sized states in
-    let Numbered : (Lane → LaneState) → Type 0 = λ ls. (q : Lane) → IsNumbered (ls q) in
-    subst Numbered (sym lanes) (numbered_write c.args.lane (with_letter c.args.message.now lane) (lanes_of old.sessions old.queues.items) old.numbered (numbered_more c.args.message.now lane (old.numbered c.args.lane)))
+invariant_of-self-clause-counted c = (changes c).keeps.counted
 
-pub returns-clause-ok : goal.returns-clause-ok
+pub invariant_of-self-clause-numbered : goal.invariant_of-self-clause-numbered
 unfolding post_of
-returns-clause-ok c =
-    let old = c.args.self.now in
-    let lane = lanes_of old.sessions old.queues.items c.args.lane in
-    let states = placed old.sessions old.queues.items c.args.lane (with_letter c.args.message.now) c.place_of.result c.index_mut.result.now c.push.new.self c.requires.lane old.sized c.place_of.ensures c.index_mut.ensures.value c.in_ok-number.ensures.ok in
-    ap (λ lanes. record (post_of old) { lanes = lanes }) (wrote_lane old.sessions old.queues.items _ c.args.lane (with_letter c.args.message.now lane) c.requires.lane old.sized states)
+invariant_of-self-clause-numbered c = (changes c).keeps.numbered
+
+pub invariant_of-self-clause-backed : goal.invariant_of-self-clause-backed
+unfolding post_of
+invariant_of-self-clause-backed c = (changes c).keeps.backed
+
+pub invariant_of-self-clause-measured : goal.invariant_of-self-clause-measured
+unfolding post_of
+invariant_of-self-clause-measured c = (changes c).keeps.measured
+
+stays : (c : goal.In-Err) → let p = c.args.self.now in Keeps p.sessions p.waiting (slips_of p.sessions (set p.queues.items c.place_of.result c.push.new.self)) c.push.new.region.kept
+stays c = let p = c.args.self.now in unchanged_at p.sessions p.waiting p.queues.items c.place_of.result c.index_mut.result.now c.push.new.self p.region c.push.new.region c.index_mut.ensures.value c.in-Err.ensures.err (kept_by p)
+
+pub invariant_of-self-in-Err-clause-counted : goal.invariant_of-self-in-Err-clause-counted
+unfolding post_of
+invariant_of-self-in-Err-clause-counted c = (stays c).counted
+
+pub invariant_of-self-in-Err-clause-numbered : goal.invariant_of-self-in-Err-clause-numbered
+unfolding post_of
+invariant_of-self-in-Err-clause-numbered c = (stays c).numbered
+
+pub invariant_of-self-in-Err-clause-backed : goal.invariant_of-self-in-Err-clause-backed
+unfolding post_of
+invariant_of-self-in-Err-clause-backed c = (stays c).backed
+
+pub invariant_of-self-in-Err-clause-measured : goal.invariant_of-self-in-Err-clause-measured
+unfolding post_of
+invariant_of-self-in-Err-clause-measured c = (stays c).measured
+
+pub returns-in-Ok-clause-ok : goal.returns-in-Ok-clause-ok
+unfolding post_of
+returns-in-Ok-clause-ok c =
+    let p = c.args.self.now in
+    let changes = pushed_at p.sessions p.waiting p.queues.items c.args.lane c.place_of.result c.args.message.now c.index_mut.result.now c.push.new.self p.region.kept c.push.new.region.kept c.requires.lane p.sized c.place_of.ensures c.index_mut.ensures.value c.in-Ok.ensures.ok (kept_by p) in
+    ap (λ lanes. record (post_of p) { lanes = lanes }) changes.lanes

@@ -1,0 +1,10 @@
+pub mod Drafting
+pub mod Finding
+pub mod Finishing
+pub mod Marking
+pub mod Meanings
+pub mod Numbering
+pub mod Parts
+pub mod Putting
+pub mod Readiness
+pub mod Starting

@@ -1,0 +1,10 @@
+pub mod Apart
+pub mod Calls
+pub mod Going
+pub mod Keeping
+pub mod Listing
+pub mod Regions
+pub mod Reserving
+pub mod Setting
+pub mod Sound
+pub mod Writing
