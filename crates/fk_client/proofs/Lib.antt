@@ -1,6 +1,9 @@
 pub mod Asking
 pub mod Same
 pub mod Settling
+pub mod Ready
+pub mod Telling
+pub mod Waiting
 pub mod Numbers
 pub mod Answered
 pub mod Finding

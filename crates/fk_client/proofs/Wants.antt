@@ -1,5 +1,5 @@
 -- What follows where the next command wants something.
-use Rattle.std.proofs.Common.{◌≡◌, ◌+◌, Bool, true, false, cond, Option, Some, None, refl, sym, subst, arith}
+use Rattle.std.proofs.Common.{◌≡◌, ◌+◌, Bool, true, false, cond, List, [], ◌∷◌, Option, Some, None, refl, sym, subst, arith}
 use Rattle.std.specs.Prelude.{is_some, not}
 use Rattle.fk_print.specs.declared.op.Op.TheVariants as op
 use Rattle.fk_tree.specs.Ask.{path_asked}
@@ -7,7 +7,9 @@ use Rattle.fk_tree.specs.declared.request.Query.{Query}
 use Rattle.fk_tree.specs.declared.request.Request.{Request}
 use Rattle.fk_wire.specs.Limits.{IsLimitedRequest}
 use Rattle.fk_script.specs.declared.command.Command.{Command}
-use Rattle.fk_spec.specs.Client.{begin_asked, begin_op, is_unfit, may_begin}
+use Rattle.std.proofs.lemmas.Bool.{false≢true}
+use Rattle.fk_spec.specs.Client.{all_go_on, begin_asked, begin_op, is_none_sent, is_unfit, is_write, may_begin}
+use Rattle.fk_client.specs.declared.unanswered.Unanswered.{Unanswered}
 use Rattle.fk_spec.specs.Sight.{Sight}
 use Rattle.fk_spec.specs.Plan.{Ask, Want, Unfit, Writes, Reads, ask_of, want_of}
 use Rattle.fk_client.specs.Beginning.{IsNextRead, IsNextWrite, Wants}
@@ -63,3 +65,17 @@ begins_in s m (Some v) w a x e = rw (x, a) (step (may_begin by_outcome m.asks v 
 
 pub begins : (s : Sight) (m : Meaning) (w : Want) → s.asks ≡ m.asks → Wants (next_ask m) w → waits_next m (next_ask m) ≡ false → begin_asked by_outcome s m.client (next_ask m) ≡ begin_op s (m.client.begun + 1) m.client.closed w
 begins s m w a x e = begins_in s m (next_ask m) w a x e
+
+-- where it may begin, none that isn't answered has to be waited for
+pub others : (m : Meaning) (o : Option Ask) → waits_next m o ≡ false → all_go_on by_outcome m.asks m.client.sent ≡ true
+others m None e = absurd (false≢true (sym e))
+others m (Some a) e = step (is_write a.verb) m.client.sent e
+  where
+    so : (b : Bool) → not b ≡ false → b ≡ true
+    so true e = refl
+    so false e = absurd (false≢true (sym e))
+
+    step : (b : Bool) (ss : List Unanswered) → not (cond b (all_go_on by_outcome m.asks ss) (is_none_sent ss)) ≡ false → all_go_on by_outcome m.asks ss ≡ true
+    step true ss e = so (all_go_on by_outcome m.asks ss) e
+    step false [] e = refl
+    step false (s ∷ ss) e = absurd (false≢true (sym e))

@@ -2,6 +2,7 @@
 use Rattle.std.proofs.Common.{◌≡◌, ◌≤◌, ◌==◌, inl, inr, ℕ, zero, suc, true, false, cond, Option, Some, None, refl, sym, ap, subst, arith}
 use Rattle.std.specs.Prelude.{◌&&◌, nat_lt}
 use Rattle.std.proofs.lemmas.Bool.Decides.{nat_tests}
+use Rattle.std.proofs.lemmas.Bool.{eqb-true, eq-eqb}
 use Rattle.fk_base.specs.Path.{PathNames, same_path}
 use Rattle.fk_tree.proofs.Order.{and_left, and_right, by_test, same_path_is, same_path_self}
 use Rattle.fk_tree.specs.Ask.{path_asked}
@@ -15,24 +16,15 @@ use Rattle.fk_watch.specs.declared.watch.Watch.{Watch}
 use Rattle.fk_watch.specs.Meaning.{Watches}
 use Rattle.fk_watch.specs.Registering.{IsNumberOf, IsUnset, registered}
 use Rattle.fk_watch.specs.Sound.{IsGiven, IsSound}
+use Rattle.fk_watch.proofs.Noting.{same_kind_self}
 use Rattle.fk_client.specs.Registering.{is_watch, register_for, set_number, watch_number, watch_of}
 use Rattle.fk_client.specs.declared.registering.Registered.TheVariants as registering
-
-same_number : (i j : ℕ) → (i == j) ≡ true → i ≡ j
-same_number i j e = grind (arith, nat_tests)
-
-itself : (i : ℕ) → (i == i) ≡ true
-itself i = grind (arith, nat_tests)
 
 kinds_are : (i j : Kind) → same_kind i j ≡ true → i ≡ j
 kinds_are kind.Data kind.Data e = refl
 kinds_are kind.Child kind.Child e = refl
 kinds_are kind.Data kind.Child e = grind arith
 kinds_are kind.Child kind.Data e = grind arith
-
-kind_itself : (i : Kind) → same_kind i i ≡ true
-kind_itself kind.Data = refl
-kind_itself kind.Child = refl
 
 abbrev some_watch : ℕ → PathNames → Kind → Option Watch
 some_watch s p k = Some (record { session = s; path = p; kind = k })
@@ -45,7 +37,7 @@ is_itself : (w x : Watch) → is_watch w (Some x) ≡ true → Some x ≡ Some w
 is_itself w x e =
     let front : ((x.session == w.session) && same_path x.path w.path) ≡ true = and_left ((x.session == w.session) && same_path x.path w.path) (same_kind x.kind w.kind) e in
     same_watch x.session w.session x.path w.path x.kind w.kind
-    (same_number x.session w.session (and_left (x.session == w.session) (same_path x.path w.path) front))
+    (eqb-true x.session w.session (and_left (x.session == w.session) (same_path x.path w.path) front))
     (same_path_is x.path w.path (and_right (x.session == w.session) (same_path x.path w.path) front))
     (kinds_are x.kind w.kind (and_right ((x.session == w.session) && same_path x.path w.path) (same_kind x.kind w.kind) e))
 
@@ -54,7 +46,7 @@ is_there w None e = grind arith
 is_there w (Some x) e = is_itself w x e
 
 finds_itself : (w : Watch) → is_watch w (Some w) ≡ true
-finds_itself w = rw (itself w.session, same_path_self w.path, kind_itself w.kind) refl
+finds_itself w = rw (eq-eqb w.session w.session refl, same_path_self w.path, same_kind_self w.kind) refl
 
 -- the number of a set watch is found
 finds_set : (m : Watches) (w : Watch) (n c : ℕ) → IsSound m → m.set n ≡ Some w → 1 ≤ n → n ≤ c → set_number w m.set c ≡ Some n
@@ -69,7 +61,7 @@ finds_set m w n (suc c) s e l h =
 
     before : is_watch w (m.set (suc c)) ≡ false → n ≤ c
     before f = by_test (n == suc c) (λ b. n ≤ c)
-        (λ t. absurd (apart (rw (sym (same_number n (suc c) t), e) (finds_itself w)) f))
+        (λ t. absurd (apart (rw (sym (eqb-true n (suc c) t), e) (finds_itself w)) f))
         (λ g. grind (arith, nat_tests))
 
 -- no number is found of a watch that isn't set

@@ -1,5 +1,5 @@
 -- What a client's next command asks of the services.
-use Rattle.std.specs.Prelude.{◌≡◌, ℕ, false, if◌then◌else◌, Option, Some, None}
+use Rattle.std.specs.Prelude.{◌≡◌, ℕ, true, false, if◌then◌else◌, Option, Some, None}
 use Rattle.fk_base.specs.Path.{PathNames}
 use Rattle.fk_queue.specs.Meaning as post
 use Rattle.fk_queue.specs.declared.lane.Lane.TheVariants as lane
@@ -8,8 +8,10 @@ use Rattle.fk_tree.specs.declared.request.Request.{Request}
 use Rattle.fk_user.specs.Meaning as user
 use Rattle.fk_wire.specs.SentText.{sent_text}
 use Rattle.fk_wire.specs.declared.version.Version.TheVariants as version
-use Rattle.fk_spec.specs.Client.{Reading}
+use Rattle.fk_spec.specs.Client.{Reading, all_go_on}
 use Rattle.fk_spec.specs.Plan.{Ask, Want, Unfit, Writes, Reads}
+use Rattle.fk_client.specs.Known.{by_outcome}
+use Rattle.fk_client.specs.Meaning.{Meaning}
 use Rattle.fk_client.specs.Services.{message_of}
 
 -- there is a next command, and it wants this
@@ -21,6 +23,10 @@ abbrev pub WantsWrite : Want → Request → Type 0
 WantsWrite Unfit r = ⊥
 WantsWrite (Writes x) r = x ≡ r
 WantsWrite (Reads q watch) r = ⊥
+
+-- none that isn't answered has to be waited for
+abbrev pub OthersGoOn : Meaning → Type 0
+OthersGoOn m = all_go_on by_outcome m.asks m.client.sent ≡ true
 
 -- the next command is a write of this request
 abbrev pub IsNextWrite : Option Ask → Request → Type 0

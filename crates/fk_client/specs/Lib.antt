@@ -14,4 +14,5 @@ pub mod Sighting
 pub mod Standing
 pub mod Steps
 pub mod Told
+pub mod Unanswered
 pub mod Wanted

@@ -16,7 +16,7 @@ ghost use Rattle.fk_wire.specs.declared.message.Tell.{Tell};
 ghost use Rattle.fk_spec.specs.Client.{begin_asked, begin_op, is_unfit, joined, local_result};
 ghost use Rattle.fk_client.specs.Wanted.{want_as};
 ghost use Rattle.fk_client.specs.Acting.{GoesOn, KeepsTable, KeepsWatches, Prints};
-ghost use Rattle.fk_client.specs.Beginning.{IsNextRead, IsNextWrite, Wants, posted, read_at};
+ghost use Rattle.fk_client.specs.Beginning.{IsNextRead, IsNextWrite, OthersGoOn, Wants, posted, read_at};
 ghost use Rattle.fk_client.specs.Fit.{IsLimitedAsk};
 ghost use Rattle.fk_client.specs.Idle.{waits_next};
 ghost use Rattle.fk_client.specs.Known.{by_outcome, kept_as, reading_in, unanswered};
@@ -77,7 +77,8 @@ fn push_request(
     ensures number { let q = post_of post.old in
         let k = (q.lanes (lane.Session session)).given + 1 in
         IfOk result (λ o. o ≡ (if q.armed then None else Some k)) }
-    ensures post { OnOk result (post_of post.new ≡ posted session seen request (post_of post.old)) }
+    ensures post { OnOk result (
+        post_of post.new ≡ posted session seen request (post_of post.old)) }
 {
     let message = Sent { request, seen };
     let text = encode_send(alloc, &message)?;
@@ -109,7 +110,7 @@ impl Client {
             None => true,
             Some(command) => {
                 if is_write(command) {
-                    !all_go_on(self.commands.as_slice(), self.sent.as_slice())
+                    !all_go_on(self.commands.as_slice(), &self.sent)
                 } else {
                     !self.sent.is_empty()
                 }
@@ -118,13 +119,14 @@ impl Client {
     }
 
     /// It begins its next command.
-    #[tactic(auto, unfolding(crate::specs::Standing::client_of), using(crate::proofs::Wants::begins, crate::proofs::Wants::wants))]
+    #[tactic(auto, unfolding(crate::specs::Standing::client_of), using(crate::proofs::Wants::begins, crate::proofs::Wants::wants, crate::proofs::Wants::others))]
     pub(crate) fn begin(
         &mut self,
         post: &mut Post,
         user: &mut UserStore,
     ) -> Result<(Op, Lines), NoMemory>
-        requires begins { waits_next (client_of self.old) (next_ask (client_of self.old)) ≡ false }
+        requires begins { waits_next (client_of self.old) (next_ask (client_of self.old))
+            ≡ false }
         requires free { self.old.reading ≡ None }
         requires session { is_session (post_of post.old).sessions self.old.session ≡ true }
         requires room { let requests = (post_of post.old).lanes (lane.Session self.old.session) in
@@ -140,7 +142,8 @@ impl Client {
         ensures lines { Prints result (client_of self.old) }
         ensures table { KeepsTable result }
         ensures watches { KeepsWatches result (client_of self.old) }
-        ensures client { (w : Watches) (told : Option Tell) → IfOk result (λ r. client_of self.new
+        ensures client { (w : Watches) (told : Option Tell) → IfOk result (λ r.
+            client_of self.new
             ≡ made_by (post_of post.old) w (store_of user.old) told r.0 (client_of self.old)) }
         ensures post { IfOk result (λ r. post_of post.new
             ≡ post_by (client_of self.old) r.0 (post_of post.old)) }
@@ -162,6 +165,7 @@ impl Client {
         want: Want,
     ) -> Result<(Op, Lines), NoMemory>
         requires wants { Wants (next_ask (client_of self.old)) (want_as want) }
+        requires others { OthersGoOn (client_of self.old) }
         requires free { self.old.reading ≡ None }
         requires session { is_session (post_of post.old).sessions self.old.session ≡ true }
         requires room { let requests = (post_of post.old).lanes (lane.Session self.old.session) in
@@ -177,7 +181,8 @@ impl Client {
         ensures lines { Prints result (client_of self.old) }
         ensures table { KeepsTable result }
         ensures watches { KeepsWatches result (client_of self.old) }
-        ensures client { (w : Watches) (told : Option Tell) → IfOk result (λ r. client_of self.new
+        ensures client { (w : Watches) (told : Option Tell) → IfOk result (λ r.
+            client_of self.new
             ≡ made_by (post_of post.old) w (store_of user.old) told r.0 (client_of self.old)) }
         ensures post { IfOk result (λ r. post_of post.new
             ≡ post_by (client_of self.old) r.0 (post_of post.old)) }
@@ -201,9 +206,10 @@ impl Client {
     }
 
     // its next command is sent or refused under this number
-    #[tactic(auto, unfolding(crate::specs::Standing::client_of))]
+    #[tactic(auto, unfolding(crate::specs::Standing::client_of), using(crate::proofs::Waiting::front_more))]
     fn join(&mut self, k: u64, outcome: Outcome) -> Result<(), NoMemory>
         requires next { is_some (next_ask (client_of self.old)) ≡ true }
+        requires others { OthersGoOn (client_of self.old) }
         requires free { self.old.reading ≡ None }
         ensures { let m = client_of self.old in
             let command = self.old.begun + 1 in
@@ -225,6 +231,7 @@ impl Client {
     fn refuse(&mut self, unfit: bool) -> Result<(Op, Lines), NoMemory>
         requires next { is_some (next_ask (client_of self.old)) ≡ true }
         requires unfit { is_unfit (next_ask (client_of self.old)) ≡ unfit }
+        requires others { OthersGoOn (client_of self.old) }
         requires free { self.old.reading ≡ None }
         ensures op { IfOk result (λ r. r.0 ≡ op.Local self.old.session (self.old.begun + 1)) }
         ensures lines { Prints result (client_of self.old) }
@@ -242,6 +249,7 @@ impl Client {
     #[tactic(auto, unfolding(crate::specs::Standing::client_of))]
     fn send(&mut self, post: &mut Post, request: Request) -> Result<(Op, Lines), NoMemory>
         requires next { IsNextWrite (next_ask (client_of self.old)) request }
+        requires others { OthersGoOn (client_of self.old) }
         requires free { self.old.reading ≡ None }
         requires session { is_session (post_of post.old).sessions self.old.session ≡ true }
         requires room { let requests = (post_of post.old).lanes (lane.Session self.old.session) in
@@ -294,7 +302,8 @@ impl Client {
         ensures watches { KeepsWatches result (client_of self.old) }
         ensures client { let u = store_of user.old in
             (q : post.Meaning) (w : Watches) (told : Option Tell)
-            → IfOk result (λ r. client_of self.new ≡ made_by q w u told r.0 (client_of self.old)) }
+            → IfOk result (λ r.
+            client_of self.new ≡ made_by q w u told r.0 (client_of self.old)) }
         ensures user { IfOk result (λ r. store_of user.new ≡ user_by r.0 (store_of user.old)) }
     {
         let session = self.session;

@@ -1,11 +1,12 @@
 ghost use Rattle.std.specs.Prelude.{◌≡◌, not, ◌<◌, ◌+◌, ◌^◌, length, true, is_some, option_map, option_copied, OnSome};
 ghost use Rattle.fk_client.specs.Idle.{owes_none};
 ghost use Rattle.fk_client.specs.Meaning.{asks_read, is_finished, new_client, next_ask};
+ghost use Rattle.fk_client.specs.Unanswered.{front_goes_on, places_of};
 ghost use Rattle.fk_spec.specs.Plan.{ask_of, asks_of, nth};
 
 use crate::lists::command_after;
 use crate::reading::Reading;
-use crate::unanswered::Unanswered;
+use crate::sent_list::SentList;
 use fk_script::{Command, Commands};
 use std::alloc::Global;
 
@@ -19,7 +20,7 @@ pub struct Client {
     pub(crate) seen: u64,
     /// How many commands it began.
     pub(crate) begun: u32,
-    pub(crate) sent: Vec<Unanswered>,
+    pub(crate) sent: SentList,
     /// The watches that it holds.
     pub(crate) held: Vec<u64>,
     /// The ping that it owes an answer.
@@ -28,7 +29,9 @@ pub struct Client {
     /// Whether it knows that its session is closed.
     pub(crate) closed: bool,
     ghost few: { length commands < 2 ^ 32 },
-    ghost reads: { is_some reading ≡ true → asks_read (nth (asks_of commands) (begun + 1)) ≡ true },
+    ghost reads: { is_some reading ≡ true
+        → asks_read (nth (asks_of commands) (begun + 1)) ≡ true },
+    ghost front: { front_goes_on (asks_of commands) (places_of sent) ≡ true },
 }
 
 impl Client {
@@ -46,7 +49,7 @@ impl Client {
             commands,
             seen: 0,
             begun: 0,
-            sent: Vec::new(alloc),
+            sent: SentList::new(alloc),
             held: Vec::new(alloc),
             owed: None,
             reading: None,

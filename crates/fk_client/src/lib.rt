@@ -12,6 +12,7 @@ mod printing;
 mod reading;
 mod registering;
 mod replying;
+mod sent_list;
 mod stepping;
 mod taking;
 mod unanswered;

@@ -1,11 +1,12 @@
 //! What a client finds in its lists.
 
-ghost use Rattle.std.specs.Prelude.{◌≡◌, ◌≤◌, ◌<◌, ◌+◌, length, Some, None, option_copied, option_map, OnOk, OnSome};
-ghost use Rattle.fk_spec.specs.Client.{all_go_on, contains, first_held, without, with_held, with_told};
+ghost use Rattle.std.specs.Prelude.{◌≡◌, ◌<◌, ◌+◌, true, length, Some, None, option_copied, option_map, OnOk, OnSome};
+ghost use Rattle.fk_spec.specs.Client.{all_go_on, contains, first_held, without, with_held};
 ghost use Rattle.fk_spec.specs.Plan.{ask_of, asks_of, nth};
-ghost use Rattle.fk_client.specs.Known.{by_outcome, place_of};
+ghost use Rattle.fk_client.specs.Known.{by_outcome};
+ghost use Rattle.fk_client.specs.Unanswered.{front_goes_on, places_of};
 
-use crate::unanswered::{Outcome, Unanswered};
+use crate::sent_list::SentList;
 use crate::want::waits;
 use fk_base::NoMemory;
 use fk_script::Command;
@@ -61,44 +62,18 @@ pub fn first_held(epoch: &[u64], held: &[u64]) -> Option<u64>
     }
 }
 
-/// Whether none of these has to be waited for.
-pub fn all_go_on(commands: &[Command], sent: &[Unanswered]) -> bool
+/// Whether none of these has to be waited for, where that holds of all but the last.
+#[tactic(auto, using(crate::proofs::Waiting::last_goes))]
+pub fn all_go_on(commands: &[Command], sent: &SentList) -> bool
+    requires { front_goes_on (asks_of commands.now) (places_of sent.now) ≡ true }
     ensures { result ≡ all_go_on by_outcome (asks_of commands.now) sent.now }
 {
-    match sent {
-        [] => true,
-        [first, rest @ ..] => match command_at(commands, first.command) {
+    match sent.last() {
+        None => true,
+        Some(last) => match command_at(commands, last.command) {
             None => false,
-            Some(command) => !waits(command) && all_go_on(commands, rest),
+            Some(command) => !waits(command),
         },
-    }
-}
-
-// the place of the first open command that was sent under this number
-fn place_of(sent: &[Unanswered], k: u64) -> usize
-    ensures place { result ≡ place_of k sent.now }
-    ensures within { result ≤ length sent.now }
-{
-    match sent {
-        [] => 0,
-        [first, rest @ ..] => {
-            if first.k == k && first.outcome.is_open() {
-                0
-            } else {
-                place_of(rest, k) + 1
-            }
-        }
-    }
-}
-
-/// The command that was sent under a number, where nothing is known of it yet, has this outcome.
-#[tactic(auto, using(crate::proofs::Settling::settled_there, crate::proofs::Settling::settled_nowhere))]
-pub fn settle(sent: &mut Vec<Unanswered>, k: u64, outcome: Outcome)
-    ensures { sent.new.items ≡ with_told by_outcome k outcome sent.old.items }
-{
-    let place = place_of(sent.as_slice(), k);
-    if place < sent.len() {
-        sent[place].outcome = outcome;
     }
 }
 

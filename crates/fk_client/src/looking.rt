@@ -25,7 +25,7 @@ use crate::lists::{command_at, first_held};
 use crate::printing::print;
 use crate::reading::Reading;
 use crate::replying::{line_for, reply_line};
-use crate::unanswered::Unanswered;
+use crate::sent_list::SentList;
 use crate::want::is_close;
 use fk_base::{Code, NoMemory};
 use fk_print::{Line, Lines, Op, Shown};
@@ -70,12 +70,13 @@ fn look_at(user: &mut UserStore, held: &[u64], number: u64) -> Looked
 }
 
 // the first reply, where it needs a look
-fn target_sent(sent: &[Unanswered]) -> Option<Target>
+#[tactic(auto, using(crate::proofs::Waiting::first_target))]
+fn target_sent(sent: &SentList) -> Option<Target>
     ensures { target_in result ≡ target_sent by_outcome sent.now }
 {
-    match sent {
-        [] => None,
-        [first, ..] => first.outcome.number().map(|number| Target {
+    match sent.first() {
+        None => None,
+        Some(first) => first.outcome.number().map(|number| Target {
             command: first.command,
             number,
         }),
@@ -139,7 +140,7 @@ impl Client {
         ensures { let m = client_of self.now in
             target_in result ≡ target_of by_outcome m.seen m.client m.client.reading }
     {
-        let sent = target_sent(self.sent.as_slice());
+        let sent = target_sent(&self.sent);
         match &self.reading {
             None => sent,
             Some(reading) => {
@@ -223,7 +224,7 @@ impl Client {
     }
 
     // the first reply is printed, and leaves the list
-    #[tactic(auto, unfolding(crate::specs::Standing::client_of))]
+    #[tactic(auto, unfolding(crate::specs::Standing::client_of), using(crate::proofs::Waiting::front_tail))]
     fn reply(&mut self) -> Result<Lines, NoMemory>
         ensures lines { let m = client_of self.old in
             IfOk result (λ ls. ls ≡ first_line (wording m) m.client.sent) }
@@ -232,10 +233,9 @@ impl Client {
             ≡ seeing ls (looked_for by_outcome m.asks m.client.sent m.client) m) }
     {
         let mut lines = Lines::new(self.alloc);
-        if self.sent.is_empty() {
+        let Some(first) = self.sent.pop() else {
             return Ok(lines);
-        }
-        let first = self.sent.remove(0);
+        };
         let line = reply_line(self.alloc, self.session, self.commands.as_slice(), &first)?;
         print(self.session, &mut self.seen, &mut lines, line)?;
         self.close_after(first.command);

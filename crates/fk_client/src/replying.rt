@@ -1,9 +1,10 @@
 //! The replies of a client.
 
-ghost use Rattle.std.specs.Prelude.{◌≡◌, ◌+◌, ◌<◌, ◌++◌, [], Some, None, option_copied, option_map, IfOk, OnOk};
+ghost use Rattle.std.specs.Prelude.{◌≡◌, ◌+◌, ◌<◌, ◌++◌, [], Some, None, MatchOption, option_copied, option_map, IfOk, OnOk};
 ghost use Rattle.fk_print.specs.declared.line.Line.TheVariants as line;
 ghost use Rattle.fk_tree.specs.Apply.{part_replies, part_reply_of};
 ghost use Rattle.fk_spec.specs.Plan.{ask_of, asks_of, want_of};
+ghost use Rattle.fk_client.specs.Unanswered.{KeepsFront, LeavesReady, StaysUnready};
 ghost use Rattle.fk_spec.specs.Client.{ready_first, without_ready};
 ghost use Rattle.fk_spec.specs.Replies.{reply_line, reply_lines, shown_reply, verb_asked};
 ghost use Rattle.fk_spec.specs.Shown.{seen_lines};
@@ -12,6 +13,7 @@ ghost use Rattle.fk_client.specs.Shown.{reply_told, shown_commit, shown_outcome,
 
 use crate::lists::command_at;
 use crate::printing::print;
+use crate::sent_list::SentList;
 use crate::unanswered::{Outcome, Unanswered};
 use crate::want::{Want, verb_of, want_of};
 use fk_base::{Code, NoMemory, Path};
@@ -174,12 +176,27 @@ pub fn reply_line(
     Ok(line_for(session, unanswered.command, command, shown))
 }
 
-fn is_first_ready(sent: &[Unanswered]) -> bool
+#[tactic(auto, using(crate::proofs::Waiting::first_ready))]
+fn is_first_ready(sent: &SentList) -> bool
     ensures { result ≡ is_first_ready sent.now }
 {
-    match sent {
-        [] => false,
-        [first, ..] => first.outcome.is_ready(),
+    match sent.first() {
+        None => false,
+        Some(first) => first.outcome.is_ready(),
+    }
+}
+
+// takes out the first, where it is ready
+#[tactic(auto, using(crate::proofs::Ready::leaves_ready, crate::proofs::Ready::stays_unready))]
+fn pop_ready(sent: &mut SentList) -> Option<Unanswered>
+    ensures ready { MatchOption result (StaysUnready sent.old sent.new)
+        (λ s. LeavesReady s sent.old sent.new) }
+    ensures front { KeepsFront sent.old sent.new }
+{
+    if is_first_ready(sent) {
+        sent.pop()
+    } else {
+        None
     }
 }
 
@@ -188,20 +205,20 @@ pub fn flush(
     alloc: Global,
     session: u32,
     commands: &[Command],
-    sent: &mut Vec<Unanswered>,
+    sent: &mut SentList,
     seen: &mut u64,
     lines: &mut Lines,
 ) -> Result<(), NoMemory>
-    ensures sent { OnOk result (sent.new.items ≡ without_ready by_outcome sent.old.items) }
+    ensures sent { OnOk result (sent.new ≡ without_ready by_outcome sent.old) }
+    ensures front { KeepsFront sent.old sent.new }
     ensures lines { let wording = wording_of session (asks_of commands.now) in
-        let replies = reply_lines wording (ready_first by_outcome sent.old.items) in
+        let replies = reply_lines wording (ready_first by_outcome sent.old) in
         OnOk result (lines.new ≡ lines.old ++ replies) }
     ensures seen { let wording = wording_of session (asks_of commands.now) in
-        let replies = reply_lines wording (ready_first by_outcome sent.old.items) in
+        let replies = reply_lines wording (ready_first by_outcome sent.old) in
         OnOk result (seen.new ≡ seen_lines session replies seen.old) }
 {
-    'flushing: while is_first_ready(sent.as_slice()) {
-        let first = sent.remove(0);
+    'flushing: while let Some(first) = pop_ready(sent) {
         let line = reply_line(alloc, session, commands, &first)?;
         print(session, seen, lines, line)?;
     }

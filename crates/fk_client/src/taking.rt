@@ -22,7 +22,7 @@ ghost use Rattle.fk_client.specs.Standing.{client_of};
 ghost use Rattle.fk_client.specs.Told.{IsReadable, IsTold};
 
 use crate::client::Client;
-use crate::lists::{contains, forget, settle};
+use crate::lists::{contains, forget};
 use crate::printing::print;
 use crate::unanswered::Outcome;
 use fk_base::NoMemory;
@@ -168,12 +168,12 @@ impl Client {
         }
     }
 
-    #[tactic(auto, unfolding(crate::specs::Standing::client_of))]
+    #[tactic(auto, unfolding(crate::specs::Standing::client_of), using(crate::proofs::Waiting::front_told))]
     fn settle(&mut self, k: u64, outcome: Outcome)
         ensures { let m = client_of self.old in
             client_of self.new ≡ seeing [] (settle_with by_outcome k (Some outcome) m.client) m }
     {
-        settle(&mut self.sent, k, outcome);
+        self.sent.settle(k, outcome);
         self.give_up();
     }
 
@@ -189,7 +189,8 @@ impl Client {
     // its session was evicted, which it prints where it didn't know that the session is closed
     #[tactic(auto, unfolding(crate::specs::Standing::client_of))]
     fn evict(&mut self, tx: u64) -> Result<Lines, NoMemory>
-        ensures lines { IfOk result (λ ls. ls ≡ expired_lines self.old.closed self.old.session tx) }
+        ensures lines { IfOk result (λ ls.
+            ls ≡ expired_lines self.old.closed self.old.session tx) }
         ensures client { let m = client_of self.old in
             IfOk result (λ ls. client_of self.new ≡ seeing ls (evicted m.client) m) }
     {

@@ -70,7 +70,8 @@ fn want_create(
 }
 
 fn want_set(alloc: Global, path: &Text, bytes: &Bytes, version: i32) -> Result<Want, NoMemory>
-    ensures { IfOk result (λ w. want_as w ≡ want_of (Command.Set path.now bytes.now version true)) }
+    ensures { IfOk result (λ w.
+        want_as w ≡ want_of (Command.Set path.now bytes.now version true)) }
 {
     if bytes.len() > DATA_LIMIT {
         return Ok(Want::Unfit);

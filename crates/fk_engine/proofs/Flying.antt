@@ -7,6 +7,7 @@ use Rattle.std.specs.Ordering.{nat_cmp, is_eq, is_lt}
 use Rattle.std.proofs.lemmas.List.{drop-append-le, drop-drop, drop-take, length-append, length-drop, length-take-le}
 use Rattle.std.proofs.lemmas.List.Sorted.{searched}
 use Rattle.std.proofs.lemmas.Map.Keys.{below_from_sorted}
+use Rattle.std.proofs.lemmas.Option.{same_Some}
 use Rattle.fk_tree.specs.Sorted.{is_below}
 use Rattle.fk_tree.proofs.Order.{and_left, and_right}
 use Rattle.fk_tree.proofs.Rising.{below_absent}
@@ -65,14 +66,11 @@ not_found n ns i r s = absent n ns other
 
 -- ---- taken out
 
-some_same : (m n : ℕ) → Some m ≡ Some n → m ≡ n
-some_same m n e = cc
-
 below_at : (m n : ℕ) (ns : List ℕ) (i : ℕ) → is_below nat_cmp m ns ≡ true → slice_get ns i ≡ Some n → m < n
 below_at m n [] i b e = absurd (cc)
 below_at m n (k ∷ ns) zero b e =
     let low : is_lt (nat_cmp m k) ≡ true = and_left (is_lt (nat_cmp m k)) (is_below nat_cmp m ns) b in
-    let same : k ≡ n = some_same k n e in
+    let same : k ≡ n = same_Some k n e in
     grind (arith, low, same)
 below_at m n (k ∷ ns) (suc i) b e = below_at m n ns i (and_right (is_lt (nat_cmp m k)) (is_below nat_cmp m ns) b) e
 
@@ -85,7 +83,7 @@ other_is m n l = grind (arith, l)
 -- the list without a number is what stands before it and behind it
 pub taken_at : (ns : List ℕ) (i n : ℕ) → ids_rise ns ≡ true → slice_get ns i ≡ Some n → take i ns ++ drop (suc i) ns ≡ without_id n ns
 taken_at [] i n r e = absurd (cc)
-taken_at (m ∷ ns) zero n r e = subst (λ k. ns ≡ without_id k (m ∷ ns)) (some_same m n e) (rw (self_is m) (sym (without_absent m ns (below_absent nat_cmp_total nat_cmp-IsAntisymmetric m ns (and_left (is_below nat_cmp m ns) (ids_rise ns) r)))))
+taken_at (m ∷ ns) zero n r e = subst (λ k. ns ≡ without_id k (m ∷ ns)) (same_Some m n e) (rw (self_is m) (sym (without_absent m ns (below_absent nat_cmp_total nat_cmp-IsAntisymmetric m ns (and_left (is_below nat_cmp m ns) (ids_rise ns) r)))))
 taken_at (m ∷ ns) (suc i) n r e =
     let low : m < n = below_at m n ns i (and_left (is_below nat_cmp m ns) (ids_rise ns) r) e in
     rw (other_is m n low) (ap (λ ys. m ∷ ys) (taken_at ns i n (and_right (is_below nat_cmp m ns) (ids_rise ns) r) e))

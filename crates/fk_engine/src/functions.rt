@@ -74,7 +74,8 @@ impl Functions {
 
     /// The number of the first of them.
     pub fn first(&self) -> Option<u64>
-        ensures { (ns : List ℕ) → AreInFlight (functions_of self.now) ns → result ≡ slice_get ns 0 }
+        ensures { (ns : List ℕ)
+            → AreInFlight (functions_of self.now) ns → result ≡ slice_get ns 0 }
     {
         self.in_flight().first().copied()
     }

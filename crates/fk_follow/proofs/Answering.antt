@@ -4,22 +4,17 @@ use Rattle.std.specs.Prelude.{◌==◌}
 use Rattle.fk_base.specs.Path.{PathNames}
 use Rattle.fk_print.specs.declared.op.Op.TheVariants as op
 use Rattle.fk_print.specs.declared.op.Word.TheVariants as word
-use Rattle.fk_queue.specs.Answers.{ack_of, is_number}
-use Rattle.fk_queue.specs.Letters.{head_number}
-use Rattle.fk_queue.specs.Meaning as post
-use Rattle.fk_queue.specs.declared.answer.Ack.TheVariants as ack
-use Rattle.fk_queue.specs.declared.lane.Lane.{Lane}
 use Rattle.fk_store.specs.Conds.{session_of}
 use Rattle.fk_store.specs.Meaning.{Meaning}
 use Rattle.fk_tree.specs.Check.{Refusal}
-use Rattle.fk_spec.specs.Follower.{Follower, ack_op, refuse_locked}
+use Rattle.fk_spec.specs.Follower.{Follower, refuse_locked}
 use Rattle.fk_spec.specs.Locks.{Passed}
 use Rattle.fk_settle.specs.Held.{first_passed}
 use Rattle.fk_spec.specs.Failing.{or_fault}
 use Rattle.fk_follow.specs.Operation.{commit_op, locked, lost_op, refuse_on}
 use Rattle.fk_settle.specs.Verdicts.{commit_by, verdict_of, verdict_on}
 use Rattle.fk_settle.proofs.Commits.{commit_told}
-use Rattle.fk_follow.specs.Said.{ack_by, lost_by, refuse_by}
+use Rattle.fk_follow.specs.Said.{lost_by, refuse_by}
 use Rattle.fk_settle.specs.declared.settling.Verdict.TheVariants as verdict
 
 pub commit_said : (t : Meaning) (n tx : ℕ) (f : Follower) → commit_by n tx (verdict_of t f.session f.k n (locked f)) ≡ or_fault t.armed n word.Commit (commit_op t n tx f)
@@ -42,15 +37,3 @@ lost_chosen n settled false false = refl
 
 pub lost_said : (t : Meaning) (n : ℕ) (f : Follower) → lost_by n (verdict_of t f.session f.k n []) ≡ or_fault t.armed n word.Lost (lost_op t n f)
 lost_said t n f = lost_chosen n (session_of t f.session).settled t.armed ((session_of t f.session).settled + 1 == f.k)
-
-ack_chosen : (n k : ℕ) (a : Bool) (o : Option ℕ) → ack_by n (cond a ack.Failed (cond (is_number k o) ack.Acked ack.NotHead)) ≡ cond a (op.Fault n word.Ack) (ack_op n k o)
-ack_chosen n k true o = refl
-ack_chosen n k false None = refl
-ack_chosen n k false (Some m) = step (m == k)
-  where
-    step : (b : Bool) → ack_by n (cond b ack.Acked ack.NotHead) ≡ cond b (op.AckOk n) (op.AckGone n)
-    step true = refl
-    step false = refl
-
-pub ack_said : (q : post.Meaning) (l : Lane) (n k : ℕ) → ack_by n (ack_of q l k) ≡ or_fault q.armed n word.Ack (ack_op n k (head_number (q.lanes l)))
-ack_said q l n k = ack_chosen n k q.armed (head_number (q.lanes l))

@@ -9,4 +9,5 @@ pub mod Sending
 pub mod Services
 pub mod Standing
 pub mod Steps
+pub mod Told
 pub mod Worked

@@ -4,8 +4,6 @@ use Rattle.fk_base.specs.declared.code.Code.{Code}
 use Rattle.fk_print.specs.declared.op.Op.{Op}
 use Rattle.fk_print.specs.declared.op.Op.TheVariants as op
 use Rattle.fk_print.specs.declared.op.Word.TheVariants as word
-use Rattle.fk_queue.specs.declared.answer.Ack.{Ack}
-use Rattle.fk_queue.specs.declared.answer.Ack.TheVariants as ack
 use Rattle.fk_tree.specs.Check.{Refusal}
 use Rattle.fk_settle.specs.declared.settling.Verdict.{Verdict}
 use Rattle.fk_settle.specs.declared.settling.Verdict.TheVariants as verdict
@@ -25,8 +23,3 @@ lost_by n verdict.Done = op.LostOk n
 lost_by n (verdict.Settled settled) = op.LostSettled n settled
 lost_by n (verdict.Passed path holder moment) = op.Idle
 lost_by n verdict.Failed = op.Fault n word.Lost
-
-abbrev pub ack_by : ℕ → Ack → Op
-ack_by n ack.Acked = op.AckOk n
-ack_by n ack.NotHead = op.AckGone n
-ack_by n ack.Failed = op.Fault n word.Ack

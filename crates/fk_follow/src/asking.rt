@@ -16,6 +16,7 @@ ghost use Rattle.fk_spec.specs.Follower.{unsettled_op};
 ghost use Rattle.fk_follow.specs.Standing.{follower_of};
 
 use crate::follower::Follower;
+use crate::own_nodes::OwnNodes;
 use crate::reading::{owned_at, session_at};
 use crate::state::{State, kept_of};
 use fk_base::NoMemory;
@@ -125,7 +126,7 @@ impl Follower {
             return Ok(self.fail(Word::Owned));
         };
         let count = paths.len() as u64;
-        self.owned = paths;
+        self.owned = OwnNodes::of(self.alloc, paths)?;
         self.go_on()?;
         Ok(Op::Owned {
             function: self.inv,

@@ -1,59 +1,108 @@
 //! What a follower does after it was granted some locks.
 
-ghost use Rattle.std.specs.Prelude.{◌≡◌, IfOk, MatchOption, Some, None};
+ghost use Rattle.std.specs.Prelude.{◌≡◌, length, take, IfOk};
 ghost use Rattle.fk_tree.specs.Check.{HasFewParts, check};
+ghost use Rattle.fk_tree.specs.Locks.{lock_paths};
 ghost use Rattle.fk_tree.specs.Shown.{rows_view};
+ghost use Rattle.fk_tree.specs.Tree.{map_some};
 ghost use Rattle.fk_spec.specs.Follower.{view_of};
 ghost use Rattle.fk_spec.specs.Plan.{item_after};
 ghost use Rattle.fk_follow.specs.Deciding.{decided_as, state_after};
 ghost use Rattle.fk_follow.specs.Standing.{grants_of};
+ghost use Rattle.fk_follow.specs.Told.{node_for, sketch, view_for};
 
 use crate::granted::{Granted, greatest_last};
-use crate::locking::lock_paths;
+use crate::locking::few_lock_paths;
+use crate::own_nodes::OwnNodes;
 use crate::state::State;
-use fk_base::{NoMemory, Path};
+use fk_base::{Bytes, Names, NoMemory, Path};
+use fk_settle::closes;
 use fk_tree::{CheckFault, Node, Request, Rows};
 use fk_wire::Sent;
 use std::alloc::Global;
 
-fn copy_of(node: &Option<Node>) -> Result<Option<Node>, NoMemory>
-    ensures { IfOk result (λ n. n ≡ node.now) }
+// the first of these names alone
+fn first_name(alloc: Global, names: &Names) -> Result<Names, NoMemory>
+    ensures { IfOk result (λ n. n ≡ take 1 names.now) }
 {
-    match node {
-        None => Ok(None),
-        Some(node) => Ok(Some(node.copy()?)),
+    let mut first = Names::new(alloc);
+    if let [name, ..] = names.as_slice() {
+        first.push(name.copy()?)?;
+    }
+    Ok(first)
+}
+
+// a node without its data, and with one child name at most
+fn sketch(alloc: Global, node: &Node) -> Result<Node, NoMemory>
+    ensures { IfOk result (λ n. n ≡ sketch node.now) }
+{
+    Ok(Node {
+        bytes: Bytes::new(alloc),
+        czxid: node.czxid,
+        mzxid: node.mzxid,
+        pzxid: node.pzxid,
+        ctime: node.ctime,
+        mtime: node.mtime,
+        version: node.version,
+        cversion: node.cversion,
+        made: node.made,
+        owner: node.owner,
+        names: first_name(alloc, &node.names)?,
+    })
+}
+
+// what a request reads of a node
+fn node_for(alloc: Global, request: &Request, node: &Node) -> Result<Node, NoMemory>
+    ensures { IfOk result (λ n. n ≡ node_for request.now node.now) }
+{
+    match request {
+        Request::Multi(_) => node.copy(),
+        Request::Create { .. }
+        | Request::Set { .. }
+        | Request::Delete { .. }
+        | Request::Close { .. } => sketch(alloc, node),
     }
 }
 
-/// What the granted records show.
-pub fn rows_of(alloc: Global, granted: &[Granted]) -> Result<Rows, NoMemory>
-    ensures { IfOk result (λ rows. rows_view rows ≡ view_of (grants_of granted.now)) }
+fn copy_for(alloc: Global, request: &Request, node: &Option<Node>) -> Result<Option<Node>, NoMemory>
+    ensures { IfOk result (λ n. n ≡ map_some (node_for request.now) node.now) }
+{
+    match node {
+        None => Ok(None),
+        Some(node) => Ok(Some(node_for(alloc, request, node)?)),
+    }
+}
+
+/// What a request reads of the granted records.
+#[tactic(auto, using(crate::proofs::Sketching::view_step))]
+pub fn rows_for(alloc: Global, request: &Request, granted: &[Granted]) -> Result<Rows, NoMemory>
+    ensures { IfOk result (λ rows. rows_view rows
+        ≡ view_for request.now (view_of (grants_of granted.now))) }
 {
     let mut rows = Rows::new(alloc);
     let mut left = granted.len();
     'showing: while left > 0 {
         left -= 1;
         let lock = &granted[left];
-        rows.put(lock.path.copy()?, copy_of(&lock.node)?)?;
+        rows.put(lock.path.copy()?, copy_for(alloc, request, &lock.node)?)?;
     }
     Ok(rows)
 }
 
-// the path at this place, from 0
+// a copy of the path at this place, from 0
 #[tactic(auto, using(crate::proofs::Items::item_here, crate::proofs::Items::item_beyond))]
-fn item_at(paths: &[Path], place: usize) -> Option<&Path>
-    ensures { MatchOption result
-        (item_after paths.now place ≡ None)
-        (λ p. item_after paths.now place ≡ Some p.now) }
+fn item_copy(paths: &[Path], place: usize) -> Result<Option<Path>, NoMemory>
+    ensures { IfOk result (λ o. o ≡ item_after paths.now place) }
 {
     if place < paths.len() {
-        Some(&paths[place])
+        Ok(Some(paths[place].copy()?))
     } else {
-        None
+        Ok(None)
     }
 }
 
 // it pushes where the check passes on what was granted
+#[tactic(auto, using(crate::proofs::Sketching::checks))]
 fn decide(
     alloc: Global,
     session: u32,
@@ -65,12 +114,30 @@ fn decide(
     ensures { let view = view_of (grants_of granted.now) in
         IfOk result (λ s. s ≡ decided_as at (check view session request.now)) }
 {
-    let rows = rows_of(alloc, granted)?;
+    let rows = rows_for(alloc, request, granted)?;
     match rows.check(session, request) {
         Ok(()) => Ok(State::Push),
         Err(CheckFault::Refused { code, place }) => Ok(State::Refuse { code, place, at }),
         Err(CheckFault::NoMemory) => Err(NoMemory),
     }
+}
+
+// the next path to lock, which a close reads from its list
+#[tactic(auto, using(crate::proofs::Closing::close_paths, crate::proofs::Closing::few_paths))]
+fn next_path(
+    alloc: Global,
+    owned: &OwnNodes,
+    granted: &[Granted],
+    request: &Request,
+) -> Result<Option<Path>, NoMemory>
+    ensures { let paths = lock_paths (view_of (grants_of granted.now)) owned.now request.now in
+        IfOk result (λ o. o ≡ item_after paths (length granted.now)) }
+{
+    if closes(request) {
+        return item_copy(owned.locks(), granted.len());
+    }
+    let paths = few_lock_paths(alloc, granted, request)?;
+    item_copy(paths.as_slice(), granted.len())
 }
 
 /// The next path to lock, or the decision after the last one.
@@ -79,16 +146,15 @@ pub fn next_state(
     session: u32,
     last: u64,
     message: &Sent,
-    owned: &[Path],
+    owned: &OwnNodes,
     granted: &[Granted],
 ) -> Result<State, NoMemory>
     requires { HasFewParts message.now.request }
     ensures { IfOk result (λ s. s
         ≡ state_after message.now.seen session last owned.now granted.now message.now.request) }
 {
-    let paths = lock_paths(alloc, granted, owned, &message.request)?;
-    match item_at(paths.as_slice(), granted.len()) {
-        Some(path) => Ok(State::Lock(path.copy()?)),
+    match next_path(alloc, owned, granted, &message.request)? {
+        Some(path) => Ok(State::Lock(path)),
         None => {
             let at = message.seen.max(last.max(greatest_last(granted)));
             decide(alloc, session, at, &message.request, granted)

@@ -8,8 +8,9 @@ ghost use Rattle.fk_follow.specs.Standing.{follower_of};
 
 use crate::deciding::next_state;
 use crate::granted::Granted;
+use crate::own_nodes::OwnNodes;
 use crate::state::State;
-use fk_base::{NoMemory, Paths};
+use fk_base::NoMemory;
 use fk_print::{Op, Word};
 use fk_settle::closes;
 use fk_wire::Sent;
@@ -26,8 +27,8 @@ pub struct Follower {
     pub(crate) message: Sent,
     /// The session's last committed transaction when it began.
     pub(crate) last: u64,
-    /// The paths of the session's nodes, for a close.
-    pub(crate) owned: Paths,
+    /// The session's nodes, for a close.
+    pub(crate) owned: OwnNodes,
     pub(crate) granted: Vec<Granted>,
     pub(crate) state: State,
 }
@@ -45,7 +46,7 @@ impl Follower {
             k,
             message,
             last: 0,
-            owned: Paths::new(alloc),
+            owned: OwnNodes::none(alloc),
             granted: Vec::new(alloc),
             state: State::Session,
         }
@@ -96,7 +97,7 @@ impl Follower {
             self.session,
             self.last,
             &self.message,
-            self.owned.as_slice(),
+            &self.owned,
             self.granted.as_slice(),
         )?;
         Ok(())

@@ -9,6 +9,7 @@ mod follower;
 mod granted;
 mod locking;
 mod losing;
+mod own_nodes;
 mod pushing;
 mod reading;
 mod state;

@@ -1,6 +1,6 @@
 //! The paths to lock for a request.
 
-ghost use Rattle.std.specs.Prelude.{◌≡◌, ◌++◌, IfOk, OnOk};
+ghost use Rattle.std.specs.Prelude.{◌≡◌, ◌++◌, [], IfOk, OnOk};
 ghost use Rattle.fk_tree.specs.Locks.{lock_paths, numbered_paths, part_lock_paths, parts_lock_paths, with_parent, with_parents};
 ghost use Rattle.fk_base.specs.Path.{parent};
 ghost use Rattle.fk_spec.specs.Follower.{node_in, view_of};
@@ -12,16 +12,14 @@ use fk_settle::in_order;
 use fk_tree::{Part, Request, final_path};
 use std::alloc::Global;
 
-/// The paths to lock for a request, in order, where these are granted. `owned` are the paths of the
-/// session's own nodes.
-pub fn lock_paths(
+/// The paths to lock for a request, in order, where these are granted; of a close no path.
+pub fn few_lock_paths(
     alloc: Global,
     granted: &[Granted],
-    owned: &[Path],
     request: &Request,
 ) -> Result<Vec<Path>, NoMemory>
     ensures { let view = view_of (grants_of granted.now) in
-        IfOk result (λ ps. ps.items ≡ lock_paths view owned.now request.now) }
+        IfOk result (λ ps. ps.items ≡ lock_paths view [] request.now) }
 {
     let mut paths = Vec::new(alloc);
     match request {
@@ -41,10 +39,7 @@ pub fn lock_paths(
             push_with_parent(&mut paths, path)?;
             Ok(paths)
         }
-        Request::Close { .. } => {
-            push_with_parents(&mut paths, owned)?;
-            in_order(alloc, paths.as_slice())
-        }
+        Request::Close { .. } => Ok(paths),
         Request::Multi(parts) => {
             push_parts(&mut paths, parts.as_slice())?;
             in_order(alloc, paths.as_slice())
@@ -63,7 +58,8 @@ fn push_with_parent(paths: &mut Vec<Path>, path: &Path) -> Result<(), NoMemory>
     Ok(())
 }
 
-fn push_with_parents(paths: &mut Vec<Path>, owned: &[Path]) -> Result<(), NoMemory>
+/// Adds each path behind its parent.
+pub fn push_with_parents(paths: &mut Vec<Path>, owned: &[Path]) -> Result<(), NoMemory>
     ensures { OnOk result (paths.new.items ≡ paths.old.items ++ with_parents owned.now) }
 {
     'pushing: for path in owned {

@@ -8,9 +8,10 @@ ghost use Rattle.fk_print.specs.declared.op.Word.TheVariants as word;
 ghost use Rattle.fk_queue.specs.Posts.{post_of};
 ghost use Rattle.fk_queue.specs.declared.lane.Lane.TheVariants as lane;
 ghost use Rattle.fk_store.specs.Meaning.{Meaning};
+ghost use Rattle.fk_tree.specs.Rows.{is_of};
 ghost use Rattle.fk_tree.specs.Shown.{rows_view};
 ghost use Rattle.fk_spec.specs.Follower.{view_of};
-ghost use Rattle.fk_spec.specs.Stored.{is_owned_by, owned_among};
+ghost use Rattle.fk_spec.specs.Stored.{owned_among};
 ghost use Rattle.fk_wire.specs.Limits.{IsLimitedRequest, IsNumber};
 ghost use Rattle.fk_wire.specs.PushedText.{pushed_text};
 ghost use Rattle.fk_wire.specs.Readable.{IsPushedReadable};
@@ -21,8 +22,9 @@ ghost use Rattle.fk_queue.specs.Meaning.{posted};
 ghost use Rattle.fk_follow.specs.Services.{push_at};
 ghost use Rattle.fk_stand.specs.Messages.{gone_of};
 ghost use Rattle.fk_follow.specs.Standing.{follower_of};
+ghost use Rattle.fk_follow.specs.Told.{view_for};
 
-use crate::deciding::rows_of;
+use crate::deciding::rows_for;
 use crate::follower::Follower;
 use crate::state::State;
 use fk_base::{NoMemory, Path, Paths};
@@ -33,7 +35,7 @@ use fk_wire::{Pushed, encode_pushed};
 use std::alloc::Global;
 
 fn is_owned_by(session: u32, node: Option<&Node>) -> bool
-    ensures { result ≡ is_owned_by session (option_copied node.entry) }
+    ensures { result ≡ is_of session (option_copied node.entry) }
 {
     match node {
         None => false,
@@ -56,15 +58,16 @@ fn owned_among(alloc: Global, session: u32, rows: &Rows, paths: &[Path]) -> Resu
 
 impl Follower {
     // of the nodes that its session owned, those that a close removes
-    #[tactic(auto, unfolding(crate::specs::Standing::follower_of))]
+    #[tactic(auto, unfolding(crate::specs::Standing::follower_of), using(crate::proofs::Sketching::gone_are))]
     fn gone(&self, rows: &Rows) -> Result<Paths, NoMemory>
-        requires { rows_view rows.now ≡ view_of (follower_of self.now).follower.granted }
+        requires { rows_view rows.now ≡ view_for self.now.message.request
+            (view_of (follower_of self.now).follower.granted) }
         ensures { let f = (follower_of self.now).follower in
             IfOk result (λ ps. ps ≡ gone_of f self.now.message.request) }
     {
         match &self.message.request {
             Request::Close { .. } => {
-                owned_among(self.alloc, self.session, rows, self.owned.as_slice())
+                owned_among(self.alloc, self.session, rows, self.owned.paths())
             }
             Request::Create { .. }
             | Request::Set { .. }
@@ -74,12 +77,12 @@ impl Follower {
     }
 
     /// What it pushes at a moment.
-    #[tactic(auto, unfolding(crate::specs::Standing::follower_of))]
+    #[tactic(auto, unfolding(crate::specs::Standing::follower_of), using(crate::proofs::Sketching::names, crate::proofs::Sketching::versions, crate::proofs::Sketching::mades))]
     pub(crate) fn pushed(&self, moment: u64) -> Result<Pushed, NoMemory>
         ensures { IfOk result (λ x. x ≡ push_at moment (follower_of self.now)) }
     {
-        let rows = rows_of(self.alloc, self.granted.as_slice())?;
         let request = &self.message.request;
+        let rows = rows_for(self.alloc, request, self.granted.as_slice())?;
         Ok(Pushed {
             session: self.session,
             k: self.k,

@@ -13,7 +13,7 @@ ghost use Rattle.fk_wire.specs.Limits.{IsNumber};
 ghost use Rattle.fk_follow.specs.Fit.{IsLimitedOutcome};
 ghost use Rattle.fk_follow.specs.Next.{GoesOn, GoesOnAfter};
 ghost use Rattle.fk_spec.specs.Failing.{or_fault};
-ghost use Rattle.fk_follow.specs.Said.{ack_by};
+ghost use Rattle.fk_stand.specs.Acks.{ack_by};
 ghost use Rattle.fk_follow.specs.Sending.{IsToldReadable};
 ghost use Rattle.fk_follow.specs.Services.{told};
 ghost use Rattle.fk_stand.specs.Messages.{outcome_tell};
@@ -79,7 +79,7 @@ impl Follower {
     }
 
     /// It removes its message, where that is its lane's head, and ends.
-    #[tactic(auto, unfolding(crate::specs::Standing::follower_of), using(crate::proofs::Answering::ack_said))]
+    #[tactic(auto, unfolding(crate::specs::Standing::follower_of), using(fk_stand::proofs::Acks::ack_said))]
     pub(crate) fn ack(&mut self, post: &mut Post) -> Op
         requires { has_lane (post_of post.old) (lane.Session self.old.session) ≡ true }
         ensures op { let q = post_of post.old in

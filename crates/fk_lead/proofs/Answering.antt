@@ -1,17 +1,12 @@
 -- What the answers of the services say is the operation by the services' meanings.
-use Rattle.std.proofs.Common.{◌≡◌, ℕ, Bool, true, false, cond, List, Option, Some, None, refl, arith}
-use Rattle.std.specs.Prelude.{◌==◌, nat_lt}
+use Rattle.std.proofs.Common.{◌≡◌, ℕ, Bool, true, false, cond, List, refl, arith}
+use Rattle.std.specs.Prelude.{nat_lt}
 use Rattle.std.proofs.lemmas.Bool.Decides.{nat_tests}
 use Rattle.fk_base.specs.Path.{PathNames}
 use Rattle.fk_tree.specs.Sorted.{in_path_order}
 use Rattle.fk_tree.specs.declared.edit.Edit.{Edit}
 use Rattle.fk_print.specs.declared.op.Op.TheVariants as op
 use Rattle.fk_print.specs.declared.op.Word.TheVariants as word
-use Rattle.fk_queue.specs.Answers.{ack_of, is_number}
-use Rattle.fk_queue.specs.Letters.{head_number}
-use Rattle.fk_queue.specs.Meaning as post
-use Rattle.fk_queue.specs.declared.answer.Ack.TheVariants as ack
-use Rattle.fk_queue.specs.declared.lane.Lane.{Lane}
 use Rattle.fk_store.specs.Answers.{IsTransact}
 use Rattle.fk_store.specs.Meaning.{Meaning}
 use Rattle.fk_store.specs.declared.answer.Transact.{Transact}
@@ -24,12 +19,11 @@ use Rattle.fk_user.specs.declared.answer.Publish.TheVariants as publish
 use Rattle.fk_user.specs.declared.answer.PutRecord.{PutRecord}
 use Rattle.fk_user.specs.declared.answer.PutRecord.TheVariants as put
 use Rattle.fk_wire.specs.declared.message.Pushed.{Pushed}
-use Rattle.fk_spec.specs.Follower.{ack_op}
 use Rattle.fk_settle.specs.Verdicts.{commit_by, verdict_of}
 use Rattle.fk_settle.proofs.Commits.{commit_told}
 use Rattle.fk_spec.specs.Failing.{or_fault}
 use Rattle.fk_lead.specs.Operation.{commit_op, done_op, drop_op, publish_op, put_op}
-use Rattle.fk_lead.specs.Said.{ack_by, done_by, drop_by, finish_of, publish_by, put_by}
+use Rattle.fk_lead.specs.Said.{done_by, drop_by, finish_of, publish_by, put_by}
 use Rattle.fk_lead.specs.Services.{finish_conds, published_at, put_at}
 use Rattle.fk_lead.specs.declared.finishing.Finish.{Finish}
 use Rattle.fk_lead.specs.declared.finishing.Finish.TheVariants as finish
@@ -95,17 +89,3 @@ publish_after u tx epoch publish.Done i e = grind (arith, nat_tests)
 publish_after u tx epoch (publish.Already mark) i e = grind (arith, nat_tests)
 publish_after u tx epoch publish.Failed i e = grind (arith, nat_tests)
 publish_after u tx epoch publish.NoMemory i e = absurd (e refl)
-
--- ---- the post
-
-ack_chosen : (n k : ℕ) (a : Bool) (o : Option ℕ) → ack_by n (cond a ack.Failed (cond (is_number k o) ack.Acked ack.NotHead)) ≡ cond a (op.Fault n word.Ack) (ack_op n k o)
-ack_chosen n k true o = refl
-ack_chosen n k false None = refl
-ack_chosen n k false (Some m) = step (m == k)
-  where
-    step : (b : Bool) → ack_by n (cond b ack.Acked ack.NotHead) ≡ cond b (op.AckOk n) (op.AckGone n)
-    step true = refl
-    step false = refl
-
-pub ack_said : (q : post.Meaning) (l : Lane) (n k : ℕ) → ack_by n (ack_of q l k) ≡ or_fault q.armed n word.Ack (ack_op n k (head_number (q.lanes l)))
-ack_said q l n k = ack_chosen n k q.armed (head_number (q.lanes l))

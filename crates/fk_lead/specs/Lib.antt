@@ -1,4 +1,5 @@
 pub mod Fit
+pub mod Indexed
 pub mod Meaning
 pub mod Next
 pub mod Operation

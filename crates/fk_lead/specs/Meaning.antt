@@ -2,7 +2,7 @@
 use Rattle.std.specs.Prelude.{ℕ, Bool, true, false, List, []}
 use Rattle.fk_base.specs.Path.{PathNames}
 use Rattle.fk_tree.specs.Edit.{effects}
-use Rattle.fk_tree.specs.Touch.{edited_paths, touches}
+use Rattle.fk_tree.specs.Touch.{edited_paths, touches, edits_at}
 use Rattle.fk_tree.specs.declared.applied.Applied.{Applied}
 use Rattle.fk_tree.specs.declared.change.Touch.{Touch}
 use Rattle.fk_tree.specs.declared.edit.Edit.{Edit}
@@ -10,7 +10,6 @@ use Rattle.fk_wire.specs.declared.fired.Fired.{Fired}
 use Rattle.fk_wire.specs.declared.message.Pushed.{Pushed}
 use Rattle.fk_spec.specs.Leader.{Stage}
 use Rattle.fk_spec.specs.Leader as stage
-use Rattle.fk_user.specs.Own.{own_edits}
 use Rattle.fk_settle.specs.Transaction.{applied_as}
 
 -- what a leader got from its sweep: what its push fired and isn't told, and the epoch
@@ -66,4 +65,4 @@ paths_of m = edited_paths (applied_of m)
 
 -- the push's edits of one path, in their order
 abbrev pub edits_of : PathNames → Meaning → List Edit
-edits_of path m = own_edits path (effects (applied_of m))
+edits_of path m = edits_at path (effects (applied_of m))

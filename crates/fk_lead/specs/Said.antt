@@ -4,8 +4,6 @@ use Rattle.fk_base.specs.Path.{PathNames}
 use Rattle.fk_print.specs.declared.op.Op.{Op}
 use Rattle.fk_print.specs.declared.op.Op.TheVariants as op
 use Rattle.fk_print.specs.declared.op.Word.TheVariants as word
-use Rattle.fk_queue.specs.declared.answer.Ack.{Ack}
-use Rattle.fk_queue.specs.declared.answer.Ack.TheVariants as ack
 use Rattle.fk_store.specs.Meaning.{Meaning}
 use Rattle.fk_user.specs.declared.answer.Publish.{Publish}
 use Rattle.fk_user.specs.declared.answer.Publish.TheVariants as publish
@@ -55,8 +53,3 @@ publish_by n tx publish.Done = op.PublishOk n tx
 publish_by n tx (publish.Already mark) = op.PublishMiss n tx mark
 publish_by n tx publish.Failed = op.Fault n word.Publish
 publish_by n tx publish.NoMemory = op.Idle
-
-abbrev pub ack_by : ℕ → Ack → Op
-ack_by n ack.Acked = op.AckOk n
-ack_by n ack.NotHead = op.AckGone n
-ack_by n ack.Failed = op.Fault n word.Ack

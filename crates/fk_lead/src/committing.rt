@@ -33,7 +33,7 @@ impl Leader {
         ensures table { let t = T.meaning table.old in
             OnOk result (T.meaning table.new ≡ committed self.old.tx self.old.message t) }
     {
-        let verdict = commit(self.alloc, table, self.tx, &self.message)?;
+        let verdict = commit(self.alloc, table, self.tx, self.message.get())?;
         Ok(self.committed(verdict))
     }
 
@@ -114,7 +114,7 @@ impl Leader {
     {
         let function = self.inv;
         let tx = self.tx;
-        match pending_at(table, self.message.session, tx) {
+        match pending_at(table, self.message.get().session, tx) {
             Some(true) => {
                 self.state = State::Sweep;
                 Op::PendingYes { function, tx }

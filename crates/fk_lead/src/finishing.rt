@@ -102,7 +102,7 @@ impl Leader {
         let writes = [
             Write::Done(self.tx),
             Write::PopPending {
-                session: self.message.session,
+                session: self.message.get().session,
                 tx: self.tx,
             },
         ];

@@ -5,6 +5,7 @@ ghost use Rattle.fk_lead.specs.Meaning.{applied_of, is_ended, started};
 ghost use Rattle.fk_lead.specs.Next.{going_to};
 ghost use Rattle.fk_lead.specs.Standing.{leader_of};
 
+use crate::indexed::IndexedPush;
 use crate::state::State;
 use fk_base::{NoMemory, Path};
 use fk_print::{Op, Word};
@@ -22,7 +23,7 @@ pub struct Leader {
     pub(crate) alloc: Global,
     pub(crate) inv: u64,
     pub(crate) tx: u64,
-    pub(crate) message: Pushed,
+    pub(crate) message: IndexedPush,
     /// The paths that are to be put after the next one.
     pub(crate) others: VecDeque<Path>,
     /// What its sweep gave: the watches that its push fired and that aren't told ..
@@ -42,7 +43,7 @@ impl Leader {
             alloc,
             inv,
             tx,
-            message,
+            message: IndexedPush::new(message),
             others: VecDeque::new(alloc),
             fired: FiredList::new(alloc),
             epoch: IdSet::new(alloc),
@@ -88,6 +89,6 @@ impl Leader {
     pub(crate) fn applied(&self) -> Result<Applied, NoMemory>
         ensures { IfOk result (λ a. a ≡ applied_of (leader_of self.now)) }
     {
-        applied_as(self.tx, &self.message)
+        applied_as(self.tx, self.message.get())
     }
 }

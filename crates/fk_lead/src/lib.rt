@@ -5,6 +5,7 @@
 
 mod committing;
 mod finishing;
+mod indexed;
 mod leader;
 mod printing;
 mod publishing;

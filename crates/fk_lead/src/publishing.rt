@@ -1,10 +1,9 @@
 //! A leader puts the record of each path that its push edits, and then publishes the push.
 
-ghost use Rattle.std.specs.Prelude.{◌≡◌, ◌≢◌, true, IfOk, OnOk};
+ghost use Rattle.std.specs.Prelude.{◌≡◌, ◌≢◌, IfOk, OnOk};
 ghost use Rattle.fk_print.specs.declared.op.Word.TheVariants as word;
 ghost use Rattle.fk_spec.specs.Leader.{to_put};
 ghost use Rattle.fk_spec.specs.Leader as stage;
-ghost use Rattle.fk_user.specs.Own.{are_own};
 ghost use Rattle.fk_user.specs.Stored.{store_of};
 ghost use Rattle.fk_user.specs.declared.answer.Publish.TheVariants as publish;
 ghost use Rattle.fk_user.specs.declared.answer.PutRecord.TheVariants as put;
@@ -20,8 +19,7 @@ use crate::leader::Leader;
 use crate::state::State;
 use fk_base::{NoMemory, Path};
 use fk_print::{Op, Word};
-use fk_tree::{Edits, effects};
-use fk_user::{Publish, PutRecord, UserStore, own_edits};
+use fk_user::{Publish, PutRecord, UserStore};
 
 impl Leader {
     /// It goes on to the first of its other paths, or to the publication where there is none.
@@ -36,16 +34,6 @@ impl Leader {
         };
     }
 
-    // its push's edits of one path
-    #[tactic(auto, unfolding(crate::specs::Standing::leader_of))]
-    fn edits(&self, path: &Path) -> Result<Edits, NoMemory>
-        ensures edits { IfOk result (λ es. es ≡ edits_of path.now (leader_of self.now)) }
-        ensures own { IfOk result (λ es. are_own path.now es ≡ true) }
-    {
-        let edits = effects(self.alloc, &self.applied()?)?;
-        own_edits(self.alloc, edits.as_slice(), path)
-    }
-
     /// It puts the record of a path.
     #[tactic(auto, unfolding(crate::specs::Standing::leader_of), using(crate::proofs::Answering::put_said, crate::proofs::Answering::put_after))]
     pub(crate) fn put(&mut self, user: &mut UserStore, path: Path) -> Result<Op, NoMemory>
@@ -58,8 +46,8 @@ impl Leader {
             OnOk result (store_of user.new
             ≡ put_at path self.old.tx self.old.message.moment edits (store_of user.old)) }
     {
-        let edits = self.edits(&path)?;
-        let answer = user.put(&path, self.tx, self.message.moment, &edits);
+        let edits = self.message.edits(self.alloc, &path)?;
+        let answer = user.put(&path, self.tx, self.message.get().moment, &edits);
         self.was_put(path, answer)
     }
 

@@ -18,7 +18,7 @@ ghost use Rattle.fk_wire.specs.TellText.{tell_text};
 ghost use Rattle.fk_wire.specs.declared.version.Version.TheVariants as version;
 ghost use Rattle.fk_lead.specs.Next.{GoesOn, GoesOnAfter};
 ghost use Rattle.fk_spec.specs.Failing.{or_fault};
-ghost use Rattle.fk_lead.specs.Said.{ack_by};
+ghost use Rattle.fk_stand.specs.Acks.{ack_by};
 ghost use Rattle.fk_queue.specs.Meaning.{posted};
 ghost use Rattle.fk_lead.specs.Services.{is_evict, note_of, reply_tell};
 ghost use Rattle.fk_lead.specs.Standing.{leader_of};
@@ -99,7 +99,8 @@ impl Leader {
         requires lane { has_lane (post_of post.old) (lane.Inbox self.old.message.session) ≡ true }
         requires room { let inbox = lane.Inbox self.old.message.session in
             ((post_of post.old).lanes inbox).given < 2 ^ 63 - 1 }
-        ensures op { IfOk result (λ o. o ≡ or_fault (post_of post.old).armed self.old.inv word.Reply
+        ensures op { IfOk result (λ o.
+            o ≡ or_fault (post_of post.old).armed self.old.inv word.Reply
             (op.Reply self.old.inv self.old.message.session self.old.message.k)) }
         ensures leader { GoesOn result (leader_of self.old) (leader_of self.new) }
         ensures post { let inbox = lane.Inbox self.old.message.session in
@@ -107,15 +108,15 @@ impl Leader {
             OnOk result (post_of post.new ≡ posted inbox text (post_of post.old)) }
         ensures sent { OnOk result (IsTellReadable (reply_tell self.old.tx self.old.message)) }
     {
-        let tell = reply_tell(self.tx, &self.message)?;
+        let tell = reply_tell(self.tx, self.message.get())?;
         let text = encode_tell(self.alloc, &tell)?;
-        match post.push(Lane::Inbox(self.message.session), text.as_slice()) {
+        match post.push(Lane::Inbox(self.message.get().session), text.as_slice()) {
             Posted::At(_) => {
                 self.state = State::Done;
                 Ok(Op::Reply {
                     function: self.inv,
-                    session: self.message.session,
-                    k: self.message.k,
+                    session: self.message.get().session,
+                    k: self.message.get().k,
                 })
             }
             Posted::Failed => Ok(self.fail(Word::Reply)),
@@ -126,7 +127,7 @@ impl Leader {
 
 impl Leader {
     /// It removes its message, where that is its lane's head, and ends.
-    #[tactic(auto, unfolding(crate::specs::Standing::leader_of), using(crate::proofs::Answering::ack_said))]
+    #[tactic(auto, unfolding(crate::specs::Standing::leader_of), using(fk_stand::proofs::Acks::ack_said))]
     pub(crate) fn ack(&mut self, post: &mut Post) -> Op
         ensures op { let q = post_of post.old in
             result ≡ or_fault q.armed self.old.inv word.Ack
