@@ -21,7 +21,7 @@ use Rattle.fk_spec.specs.Start.{Follows, Push, clock_of, or_else, push_here, pus
 use Rattle.fk_spec.specs.Locks.{grant_in, granted, last_grant}
 use Rattle.fk_spec.specs.Settling.{settled_of}
 use Rattle.fk_spec.specs.Stored as stored
-use Rattle.fk_spec.specs.Stored.{committed_as, committed_in, committed_of, filled_after, stored_view, with_filled}
+use Rattle.fk_spec.specs.Stored.{committed_as, committed_in, committed_of, filled_after, with_filled}
 use Rattle.fk_spec.specs.Follower.{Follower, view_of}
 use Rattle.fk_spec.specs.Follower as follower
 use Rattle.fk_spec.specs.Function.{Following, place_of}

@@ -40,11 +40,12 @@ use Rattle.fk_law.proofs.Editing.{live_push_edits_what_it_locked}
 use Rattle.fk_law.proofs.Leaving.{commit_is}
 use Rattle.fk_law.proofs.Locking.{lock_names_a_granted_path}
 use Rattle.fk_law.proofs.Settled.{session_of_its_push}
+use Rattle.fk_law.proofs.Numbers.{itself}
 use Rattle.fk_agree.specs.Pushes.{Tells}
 use Rattle.fk_agree.specs.Commits.{CommitIsWritten}
 use Rattle.fk_agree.proofs.Carried.{live_push_is_its_message}
 use Rattle.fk_agree.proofs.Telling.{message_tells_its_push}
-use Rattle.fk_agree.proofs.Writing.{arm_stays, changed, changes_leave_done, changes_leave_sessions, changes_written, done_append, done_is_written, faults_stay, freed, no_changes_written, no_releases_written, nodes_written, records_append, releases_leave_done, releases_leave_sessions, releases_written, same_number, sessions_append, sessions_written}
+use Rattle.fk_agree.proofs.Writing.{arm_stays, changed, changes_leave_done, changes_leave_sessions, changes_written, done_append, done_is_written, faults_stay, freed, no_changes_written, no_releases_written, nodes_written, records_append, releases_leave_done, releases_leave_sessions, releases_written, sessions_append, sessions_written}
 
 -- All writes of a commit, at a path and at a session. ---------------------------------------------------
 
@@ -242,10 +243,10 @@ own_session p n t v ls h x c =
     r = session_record p s h
 
     own : (x.session == s) ≡ true
-    own = ap (λ m. m == s) c.tells.session ∙ same_number s
+    own = ap (λ m. m == s) c.tells.session ∙ itself s
 
     counted : settled_of s (longer v ls n t h) ≡ settled_of s h + 1
-    counted = ap (λ o. count_settling s (settling o (Committed t)) (settled_of s h)) (of_session p n t h x c) ∙ ap (λ b. cond b (settled_of s h + 1) (settled_of s h)) (same_number s)
+    counted = ap (λ o. count_settling s (settling o (Committed t)) (settled_of s h)) (of_session p n t h x c) ∙ ap (λ b. cond b (settled_of s h + 1) (settled_of s h)) (itself s)
 
     settled : x.k ≡ settled_of s (longer v ls n t h)
     settled = c.tells.number ∙ (sym c.next ∙ sym counted)
@@ -253,19 +254,19 @@ own_session p n t v ls h x c =
     outcome : kept.Applied t ≡ kept_as (outcome_of s (settled_of s (longer v ls n t h)) (longer v ls n t h))
     outcome = sym (ap kept_as (ap (λ m. outcome_of s m (longer v ls n t h)) counted
         ∙ (ap (λ o. outcome_here s (settled_of s h + 1) (settled_of s h) (settling o (Committed t)) (outcome_of s (settled_of s h + 1) h)) (of_session p n t h x c)
-        ∙ ap (λ b. cond b (Some (Committed t)) (outcome_of s (settled_of s h + 1) h)) (both (s == s) (settled_of s h + 1 == settled_of s h + 1) (same_number s) (same_number (settled_of s h + 1))))))
+        ∙ ap (λ b. cond b (Some (Committed t)) (outcome_of s (settled_of s h + 1) h)) (both (s == s) (settled_of s h + 1 == settled_of s h + 1) (itself s) (itself (settled_of s h + 1))))))
       where
         both : (a b : Bool) → a ≡ true → b ≡ true → (a && b) ≡ true
         both a b i j = rw (i, j) refl
 
     last : t ≡ last_for s h (op.CommitOk n t) (last_of_session s h)
-    last = sym (ap (λ o. cond (is_session s o) t (last_of_session s h)) (of_session p n t h x c) ∙ ap (λ b. cond b t (last_of_session s h)) (same_number s))
+    last = sym (ap (λ o. cond (is_session s o) t (last_of_session s h)) (of_session p n t h x c) ∙ ap (λ b. cond b t (last_of_session s h)) (itself s))
 
     closed : (closes x.request || r.closed) ≡ (view_after (with_filled (committed_of p h) t (pushed_of p t h))).closed s
     closed = by_test (closes x.request) (λ b. (b || r.closed) ≡ cond b ((x.session == s) || r.closed) r.closed) (λ _. sym (ap (λ b. b || r.closed) own)) (λ _. refl) ∙ is_closed_with p n t h x c s
 
     pending : r.pending ++ t ∷ [] ≡ pending_in s h (op.CommitOk n t) (pending_of s h)
-    pending = sym (ap (λ o. cond (is_session s o) (pending_of s h ++ t ∷ []) (pending_of s h)) (of_session p n t h x c) ∙ ap (λ b. cond b (pending_of s h ++ t ∷ []) (pending_of s h)) (same_number s))
+    pending = sym (ap (λ o. cond (is_session s o) (pending_of s h ++ t ∷ []) (pending_of s h)) (of_session p n t h x c) ∙ ap (λ b. cond b (pending_of s h ++ t ∷ []) (pending_of s h)) (itself s))
 
 -- the records of the other sessions stay
 other_session : (p : Plan) (n t : ℕ) (v : Event) (ls : List Line) (h : List Entry) (x : Pushed) (c : Commit p n t h x) (s : ℕ) → (c.session == s) ≡ false → session_written s (commit_writes t x) (session_record p s h) ≡ session_record p s (longer v ls n t h)

@@ -12,15 +12,14 @@ use Rattle.fk_print.specs.declared.op.Op.{Op}
 use Rattle.fk_print.specs.declared.op.Op.TheVariants as op
 use Rattle.fk_watch.specs.Sweeping as table
 use Rattle.fk_watch.specs.Sweeping.{fires, unless}
-use Rattle.fk_stand.specs.Stores as stand
 use Rattle.fk_stand.specs.Stores.{firing_as, watch_as}
 use Rattle.fk_spec.specs.Plan.{Plan}
 use Rattle.fk_spec.specs.Start.{or_else}
 use Rattle.fk_spec.specs.Watches.{Firing, Watch, fired_after, fired_as, fired_watches, firing_of, firing_with, firings, not_fired, not_of, set_watches, touches_of_push}
 use Rattle.fk_spec.specs.Next.{IsHistory}
+use Rattle.fk_spec.specs.WatchNumbers.{watch_with}
 use Rattle.fk_law.specs.Due.{IsDue}
 use Rattle.fk_law.proofs.Due.{due}
-use Rattle.fk_law_watch.specs.SetWatches.{watch_with}
 use Rattle.fk_law_watch.proofs.Epochs.{contains_is, listed_has_fired}
 use Rattle.fk_law_watch.proofs.Listing.{AreUnique, fired_one, fires_none, fires_watch, has_is}
 use Rattle.fk_law_watch.proofs.SetWatches.{fires_once, sweep_leaves_none, sweep_of_set, watches_unique}
@@ -101,10 +100,6 @@ told_with id t (f ∷ fs) u = one (f.tx == t) (f.watch.id == id) refl refl (told
     one false false x y i = i ∙ sym (ap (λ z. option_map firing_as (cond z (Some f) (firing_with id (not_of t fs)))) y)
 
 -- What a sweep makes of the watch of a number. ----------------------------------------------------------
-
-pub with_is : (id : ℕ) (ws : List Watch) → stand.watch_with id ws ≡ watch_with id ws
-with_is id [] = refl
-with_is id (w ∷ ws) = ap (λ o. cond (w.id == id) (Some w) o) (with_is id ws)
 
 one_fires : (t : ℕ) (w : Watch) (o : Option Change) → table.firing t (watch_as w) o ≡ option_map firing_as (fired_one t w o)
 one_fires t w None = refl

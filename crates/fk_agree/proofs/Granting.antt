@@ -10,6 +10,7 @@ use Rattle.fk_tree.specs.Tree.{map_some}
 use Rattle.fk_tree.specs.View.{start_view}
 use Rattle.fk_tree.specs.declared.applied.Applied.{Applied}
 use Rattle.fk_tree.proofs.Order.{by_test}
+use Rattle.fk_tree.proofs.Looking.{same_flip}
 use Rattle.fk_print.specs.declared.entry.Entry.{Entry}
 use Rattle.fk_print.specs.declared.event.Event.{Event}
 use Rattle.fk_print.specs.declared.line.Line.{Line}
@@ -21,7 +22,6 @@ use Rattle.fk_store.specs.declared.node_record.NodeRecord.{NodeRecord}
 use Rattle.fk_store.specs.declared.write.Write.TheVariants as write
 use Rattle.fk_law_tree.specs.Editors.{is_edited}
 use Rattle.fk_law_tree.proofs.Counting.{unedited_stays}
-use Rattle.fk_law_tree.proofs.Members.{flipped}
 use Rattle.fk_stand.specs.Tables.{has_record, lock_from, node_record, session_record, table_after}
 use Rattle.fk_spec.specs.Plan.{Plan, is_client}
 use Rattle.fk_spec.specs.Start.{clock_of}
@@ -146,7 +146,7 @@ granted_node p n faults path v ls h q l u = by_path (same_path path q) refl
 
     by_path : (b : Bool) → same_path path q ≡ b → (written (write.Grant path n (clock_of h)) (table_after p h faults)).nodes q ≡ (table_after p (longer v ls n path h) faults).nodes q
     by_path true e =
-        ap (λ b. cond b (grant_record n (clock_of h) ((table_after p h faults).nodes q)) ((table_after p h faults).nodes q)) (flipped q path ∙ e)
+        ap (λ b. cond b (grant_record n (clock_of h) ((table_after p h faults).nodes q)) ((table_after p h faults).nodes q)) (same_flip q path ∙ e)
         ∙ (here e ∙ sym (ap (λ b. cond b (Some (node_record p q (longer v ls n path h))) None) (recorded (is_root q) ∙ refl)))
       where
         either : (b : Bool) → (b || true) ≡ true
@@ -156,7 +156,7 @@ granted_node p n faults path v ls h q l u = by_path (same_path path q) refl
         recorded : (b : Bool) → (b || is_some (grant_in q (clock_of h) (op.LockOk n path) (last_grant q h))) ≡ true
         recorded b = ap (λ z. b || is_some (cond z (Some (record { holder = n; moment = clock_of h })) (last_grant q h))) e ∙ either b
     by_path false e =
-        ap (λ b. cond b (grant_record n (clock_of h) ((table_after p h faults).nodes q)) ((table_after p h faults).nodes q)) (flipped q path ∙ e)
+        ap (λ b. cond b (grant_record n (clock_of h) ((table_after p h faults).nodes q)) ((table_after p h faults).nodes q)) (same_flip q path ∙ e)
         ∙ same (last_grant q (longer v ls n path h)) (ap (λ z. cond z (Some (record { holder = n; moment = clock_of h })) (last_grant q h)) e)
       where
         lock_of_grant : (o : Option Grant) → lock_from h o ≡ lock_from (longer v ls n path h) o

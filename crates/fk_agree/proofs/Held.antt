@@ -1,5 +1,5 @@
 -- Transactions that settle: which of a function's locks are held, and what comes of them.
-use Rattle.std.specs.Prelude.{◌+◌, ◌-◌, ◌==◌, if◌then◌else◌, option_map}
+use Rattle.std.specs.Prelude.{◌+◌, ◌-◌, ◌==◌, if◌then◌else◌}
 use Rattle.std.proofs.Common.{◌≡◌, ℕ, zero, suc, ◌≤◌, Bool, true, false, cond, List, [], ◌∷◌, refl, sym, ◌∙◌, ap, subst, arith, Option, Some, None}
 use Rattle.std.proofs.lemmas.Bool.Decides.{nat_tests}
 use Rattle.fk_base.specs.Path.{PathNames}
@@ -19,10 +19,17 @@ use Rattle.fk_spec.specs.Plan.{Plan, is_client}
 use Rattle.fk_spec.specs.Locks as rules
 use Rattle.fk_spec.specs.Locks.{Grant, first_passed, is_held_by, last_grant, passed_on}
 use Rattle.fk_spec.specs.Settling.{settled_of}
+use Rattle.fk_spec.specs.Next.{IsHistory}
+use Rattle.fk_stand.specs.Posts.{post_after}
+use Rattle.fk_stand.specs.Stores.{store_after, watches_after}
 use Rattle.fk_agree.specs.Records.{LeavesRecords}
+use Rattle.fk_agree.specs.Stored.{LeavesStore}
+use Rattle.fk_agree.specs.Watched.{LeavesWatches}
 use Rattle.fk_agree.proofs.Granting.{records_stay}
 use Rattle.fk_agree.proofs.Locking.{holds_the_same, lock_is}
-use Rattle.fk_agree.proofs.Serving.{session_is}
+use Rattle.fk_agree.proofs.Serving.{session_is, post_left, LeavesPost}
+use Rattle.fk_agree.proofs.Putting.{store_stays}
+use Rattle.fk_agree.proofs.Watching.{watches_stay}
 
 found_so : (h : List Entry) (q : PathNames) (o : Option Grant) → (held.passed_on q (lock_from h o)) ≡ passed_on q o
 found_so h q None = refl
@@ -66,10 +73,21 @@ settled_so t n c k ps ws a b =
     calm : transacted (settle_conds c k n ps) ws t ≡ written_unless (first_missed t (settle_conds c k n ps)) ws t
     calm = rw b refl
 
--- The table after it. -----------------------------------------------------------------------------------
+-- The services where its line leaves them. -----------------------------------------------------------
 
 pub left_table : (p : Plan) (faults : ℕ) (e : Entry) (h : List Entry) (o : Op) → e.op ≡ o → LeavesRecords o → table_after p h faults ≡ table_after p (e ∷ h) faults
 left_table p faults e h o g k = sym (records_stay p faults e h (subst LeavesRecords (sym g) k))
+
+pub left_post : (p : Plan) (faults : ℕ) (e : Entry) (h : List Entry) (o : Op) → e.op ≡ o → LeavesPost o → post_after p h faults ≡ post_after p (e ∷ h) faults
+left_post p faults e h o g k = sym (post_left p faults e h o g k)
+
+pub left_store : (p : Plan) (faults : ℕ) (e : Entry) (h : List Entry) (o : Op) → IsHistory p (e ∷ h) → e.op ≡ o → LeavesStore o → store_after p h faults ≡ store_after p (e ∷ h) faults
+left_store p faults e h o l g k = sym (store_stays p faults e h l (subst LeavesStore (sym g) k))
+
+pub left_watches : (p : Plan) (faults : ℕ) (e : Entry) (h : List Entry) (o : Op) → e.op ≡ o → LeavesWatches o → watches_after p h faults ≡ watches_after p (e ∷ h) faults
+left_watches p faults e h o g k = sym (watches_stay p faults e h (subst LeavesWatches (sym g) k))
+
+-- The table after it. -----------------------------------------------------------------------------------
 
 -- by what its line says
 pub settled_table : (p : Plan) (faults : ℕ) (e : Entry) (h : List Entry) (b : Bool) (o : Option rules.Passed) (f : Option rules.Passed → Op) (s : Op) (z : Meaning) → e.op ≡ (if b then f (o) else s)

@@ -7,12 +7,12 @@ use Rattle.fk_tree.specs.Edit.{closes}
 use Rattle.fk_tree.specs.Sorted.{has_path, rises}
 use Rattle.fk_tree.specs.declared.request.Request.{Request}
 use Rattle.fk_tree.specs.declared.request.Request.TheVariants as request
+use Rattle.fk_tree.specs.Rows.{is_of}
 use Rattle.fk_print.specs.declared.entry.Entry.{Entry}
 use Rattle.fk_print.specs.declared.op.Op.{Op}
 use Rattle.fk_print.specs.declared.op.Op.TheVariants as op
 use Rattle.fk_law_tree.specs.Fitting.{GoneIs}
 use Rattle.fk_law_tree.specs.Locking.{ListsOwned}
-use Rattle.fk_law_tree.specs.Owners.{is_owned}
 use Rattle.fk_stand.specs.Messages.{gone_of}
 use Rattle.fk_spec.specs.Plan.{Plan}
 use Rattle.fk_spec.specs.Start.{seen_with}
@@ -21,7 +21,7 @@ use Rattle.fk_spec.specs.Stored.{committed_of, owned_among, stored_view}
 use Rattle.fk_spec.specs.Follower.{Follower, next_with, node_in, to_lock, view_of, paths_of}
 use Rattle.fk_spec.specs.Follower as follower
 use Rattle.fk_spec.specs.Function.{Following, place_of}
-use Rattle.fk_law.proofs.Filling.{among_has, among_rises, owned_rise, owner_same}
+use Rattle.fk_law.proofs.Filling.{among_has, among_rises, owned_rise}
 use Rattle.fk_law.proofs.Carrying.{owned_is_granted}
 use Rattle.fk_law.proofs.Standing.{OnStanding, standing_step}
 
@@ -51,10 +51,10 @@ owned_rises p n h f b = subst (OnStanding Rises) b (list_rises p n h)
 -- What a close removes. --------------------------------------------------------------------------------
 
 -- of the listed paths those that the records show as owned, where the list has all of these
-gone_has : (f : Follower) (q : PathNames) → (is_owned f.session (node_in f.granted q) ≡ true → has_path q f.owned ≡ true) → has_path q (owned_among f.session (view_of f.granted) f.owned) ≡ is_owned f.session (node_in f.granted q)
-gone_has f q i = among_has f.session (view_of f.granted) f.owned q ∙ (ap (λ b. b && has_path q f.owned) (owner_same f.session (node_in f.granted q)) ∙ by_owner (is_owned f.session (node_in f.granted q)) refl)
+gone_has : (f : Follower) (q : PathNames) → (is_of f.session (node_in f.granted q) ≡ true → has_path q f.owned ≡ true) → has_path q (owned_among f.session (view_of f.granted) f.owned) ≡ is_of f.session (node_in f.granted q)
+gone_has f q i = among_has f.session (view_of f.granted) f.owned q ∙ by_owner (is_of f.session (node_in f.granted q)) refl
   where
-    by_owner : (b : Bool) → is_owned f.session (node_in f.granted q) ≡ b → (b && has_path q f.owned) ≡ b
+    by_owner : (b : Bool) → is_of f.session (node_in f.granted q) ≡ b → (b && has_path q f.owned) ≡ b
     by_owner true e = i e
     by_owner false e = refl
 
@@ -62,5 +62,5 @@ pub gone_is_owned : (p : Plan) (n : ℕ) (h : List Entry) (f : Follower) (r : Re
 gone_is_owned p n h f (request.Create path bytes seq eph) b i a = refl
 gone_is_owned p n h f (request.Set path bytes version) b i a = refl
 gone_is_owned p n h f (request.Delete path version) b i a = refl
-gone_is_owned p n h f (request.Close evict) b i a = (among_rises f.session (view_of f.granted) f.owned (owned_rises p n h f b), λ q. gone_has f q (λ w. i q (ap (is_owned f.session) (sym (a q (owned_is_granted f.session f.granted q w))) ∙ w)))
+gone_is_owned p n h f (request.Close evict) b i a = (among_rises f.session (view_of f.granted) f.owned (owned_rises p n h f b), λ q. gone_has f q (λ w. i q (ap (is_of f.session) (sym (a q (owned_is_granted f.session f.granted q w))) ∙ w)))
 gone_is_owned p n h f (request.Multi parts) b i a = refl

@@ -9,6 +9,7 @@ use Rattle.fk_tree.specs.Sorted.{has_path}
 use Rattle.fk_tree.specs.Touch.{edited_paths, edits_at}
 use Rattle.fk_tree.specs.declared.applied.Applied.{Applied}
 use Rattle.fk_tree.proofs.Order.{by_test, same_path_is}
+use Rattle.fk_tree.proofs.Looking.{same_flip}
 use Rattle.fk_print.specs.declared.entry.Entry.{Entry}
 use Rattle.fk_print.specs.declared.event.Event.{Event}
 use Rattle.fk_print.specs.declared.line.Line.{Line}
@@ -16,7 +17,6 @@ use Rattle.fk_print.specs.declared.op.Op.{Op}
 use Rattle.fk_print.specs.declared.op.Op.TheVariants as op
 use Rattle.fk_user.specs.Meaning.{new_store, published, put_record, with_put}
 use Rattle.fk_law_tree.proofs.Counting.{only_its_edits}
-use Rattle.fk_law_tree.proofs.Members.{flipped}
 use Rattle.fk_stand.specs.Stores.{store_after}
 use Rattle.fk_spec.specs.Plan.{Plan}
 use Rattle.fk_spec.specs.Settling.{mark_of, swept_in, swept_of}
@@ -90,14 +90,14 @@ put_record_at p n t faults v ls path s h a q l d u c = by_path (same_path q path
     by_path : (b : Bool) → same_path q path ≡ b → (with_put (store_after p h faults) path (suc t) a.moment (edits_at path (effects a))).records q ≡ (store_after p (putting v ls n (suc t) path h) faults).records q
     by_path true e =
         let w : q ≡ path = same_path_is q path e in
-        let f : same_path path q ≡ true = flipped path q ∙ e in
+        let f : same_path path q ≡ true = same_flip path q ∙ e in
         let m : stamp_of q h ≤ t = subst (λ x. stamp_of x h ≤ t) (sym w) u in
         let z : max (suc t) (stamp_of q h) ≡ suc t = omega (arith, m) in
         let y : stamp_of q (putting v ls n (suc t) path h) ≡ suc t = ap (λ b. cond b (max (suc t) (stamp_of q h)) (stamp_of q h)) f ∙ z in
         ap (λ b. cond b (put_record path (suc t) a.moment (edits_at path (effects a)) ((store_after p h faults).records q)) ((store_after p h faults).records q)) e
         ∙ (λ i. record { node = (ap (λ x. edited (suc t) a.moment x (edits_at x (effects a)) (record_of p q h)) (sym w) ∙ (put_node p n t s h q a l d m c ∙ sym (ap (λ x. (view_after (up_to x (committed_of p h))).node q) y))) i; stamp = (sym y) i })
     by_path false e =
-        let f : same_path path q ≡ false = flipped path q ∙ e in
+        let f : same_path path q ≡ false = same_flip path q ∙ e in
         let y : stamp_of q (putting v ls n (suc t) path h) ≡ stamp_of q h = ap (λ b. cond b (max (suc t) (stamp_of q h)) (stamp_of q h)) f in
         ap (λ b. cond b (put_record path (suc t) a.moment (edits_at path (effects a)) ((store_after p h faults).records q)) ((store_after p h faults).records q)) e
         ∙ (λ i. record { node = (sym (ap (λ x. (view_after (up_to x (committed_of p h))).node q) y)) i; stamp = (sym y) i })

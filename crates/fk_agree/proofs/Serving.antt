@@ -24,6 +24,7 @@ use Rattle.fk_stand.specs.Stores.{store_after, watches_after}
 use Rattle.fk_stand.specs.Tables.{session_record, table_after}
 use Rattle.fk_spec.specs.Plan.{Plan, is_client}
 use Rattle.fk_spec.specs.Follower.{is_number}
+use Rattle.fk_spec.specs.Function.{actor}
 use Rattle.fk_agree.specs.Letters.{LeavesLane}
 use Rattle.fk_agree.specs.Records.{LeavesRecords}
 use Rattle.fk_agree.specs.Services.{LeavesServices, NewServicesStand, ServicesStay}
@@ -110,6 +111,10 @@ lane_left p (lane.Inbox c) h o k = record { none = inbox_none o k; kept = inbox_
     inbox_kept (op.TakeWatch d w) a = absurd a
     inbox_kept (op.TakePing d n) a = absurd a
     inbox_kept o a = refl
+
+-- whose operation it is
+abbrev pub IsOf : ℕ → Op → Type 0
+IsOf n o = actor o ≡ Some n
 
 pub post_left : (p : Plan) (faults : ℕ) (e : Entry) (h : List Entry) (o : Op) → e.op ≡ o → LeavesPost o → post_after p (e ∷ h) faults ≡ post_after p h faults
 post_left p faults e h o g k = post_stays p faults e h (λ l. subst (LeavesLane p l h) (sym g) (lane_left p l h o k))

@@ -43,8 +43,9 @@ use Rattle.fk_law.proofs.Recording.{records_are_of_its_grants}
 use Rattle.fk_law.proofs.Refusing.{own_each}
 use Rattle.fk_law.proofs.Standing.{OnStanding, standing_step}
 use Rattle.fk_law.proofs.Starting.{follower_task}
+use Rattle.fk_law.proofs.Numbers.{itself}
 use Rattle.fk_agree.specs.Records.{ExpiredIsGrantedNothing, LossIsWritten, RefusalIsWritten}
-use Rattle.fk_agree.proofs.Writing.{arm_stays, done_append, done_is_written, faults_stay, no_releases_written, nodes_written, records_append, releases_leave_done, releases_leave_sessions, releases_written, same_number, sessions_append, sessions_written}
+use Rattle.fk_agree.proofs.Writing.{arm_stays, done_append, done_is_written, faults_stay, no_releases_written, nodes_written, records_append, releases_leave_done, releases_leave_sessions, releases_written, sessions_append, sessions_written}
 
 -- A follower that expires its request was granted nothing. ----------------------------------------------
 
@@ -89,7 +90,7 @@ settle_own : (p : Plan) (c k : ℕ) (w : Outcome) (o : Op) (h : List Entry) → 
 settle_own p c k w o h e n = (sym n ∙ sym counted, sym (ap kept_as here))
   where
     counted : count_settling c (settled_in h o) (settled_of c h) ≡ settled_of c h + 1
-    counted = ap (λ x. count_settling c x (settled_of c h)) e ∙ ap (λ b. cond b (settled_of c h + 1) (settled_of c h)) (same_number c)
+    counted = ap (λ x. count_settling c x (settled_of c h)) e ∙ ap (λ b. cond b (settled_of c h + 1) (settled_of c h)) (itself c)
 
     both : (a b : Bool) → a ≡ true → b ≡ true → (a && b) ≡ true
     both a b i j = rw (i, j) refl
@@ -98,7 +99,7 @@ settle_own p c k w o h e n = (sym n ∙ sym counted, sym (ap kept_as here))
     here =
         ap (λ m. outcome_here c m (settled_of c h) (settled_in h o) (outcome_of c m h)) counted
         ∙ (ap (λ x. outcome_here c (settled_of c h + 1) (settled_of c h) x (outcome_of c (settled_of c h + 1) h)) e
-        ∙ ap (λ b. cond b (Some w) (outcome_of c (settled_of c h + 1) h)) (both (c == c) (settled_of c h + 1 == settled_of c h + 1) (same_number c) (same_number (settled_of c h + 1))))
+        ∙ ap (λ b. cond b (Some w) (outcome_of c (settled_of c h + 1) h)) (both (c == c) (settled_of c h + 1 == settled_of c h + 1) (itself c) (itself (settled_of c h + 1))))
 
 settle_other : (c s : ℕ) (w : Outcome) (o : Op) (h : List Entry) → settled_in h o ≡ Some (record { session = c; outcome = w }) → (c == s) ≡ false → (settled_of s h ≡ count_settling s (settled_in h o) (settled_of s h)) × (outcome_of s (settled_of s h) h ≡ outcome_here s (count_settling s (settled_in h o) (settled_of s h)) (settled_of s h) (settled_in h o) (outcome_of s (count_settling s (settled_in h o) (settled_of s h)) h))
 settle_other c s w o h e n = (sym counted, sym here)
@@ -132,7 +133,7 @@ refused_session p v ls n place at c k cd h s t z = by_session (c == s) refl
 
     own : session_after (write.Settle c k (kept.Refused cd at place)) c (session_record p c h) ≡ session_record p c (refusing v ls n cd place at h)
     own = let x = settle_own p c k (Refused cd place at) (op.RefuseOk n cd place at) h e z in
-        settle_at c c k (kept.Refused cd at place) (session_record p c h) true (same_number c)
+        settle_at c c k (kept.Refused cd at place) (session_record p c h) true (itself c)
         ∙ (λ i. record (session_record p c (refusing v ls n cd place at h)) { settled = (x.0) i; outcome = (x.1) i })
 
     by_session : (b : Bool) → (c == s) ≡ b → session_after (write.Settle c k (kept.Refused cd at place)) s (session_record p s h) ≡ session_record p s (refusing v ls n cd place at h)
@@ -149,7 +150,7 @@ lost_session p v ls n c k h s t z = by_session (c == s) refl
 
     own : session_after (write.Settle c k (kept_as (Some (Passed (loss_of n h))))) c (session_record p c h) ≡ session_record p c (losing v ls n h)
     own = let x = settle_own p c k (Passed (loss_of n h)) (op.LostOk n) h e z in
-        settle_at c c k (kept_as (Some (Passed (loss_of n h)))) (session_record p c h) true (same_number c)
+        settle_at c c k (kept_as (Some (Passed (loss_of n h)))) (session_record p c h) true (itself c)
         ∙ (λ i. record (session_record p c (losing v ls n h)) { settled = (x.0) i; outcome = (x.1) i })
 
     by_session : (b : Bool) → (c == s) ≡ b → session_after (write.Settle c k (kept_as (Some (Passed (loss_of n h))))) s (session_record p s h) ≡ session_record p s (losing v ls n h)

@@ -41,7 +41,7 @@ ids_in [] = []
 ids_in (w ∷ ws) = w.id ∷ ids_in ws
 
 -- each number is at most so
-abbrev UpTo : ℕ → List ℕ → Type 0
+abbrev pub UpTo : ℕ → List ℕ → Type 0
 UpTo n [] = Unit {0}
 UpTo n (x ∷ xs) = (x ≤ n) × UpTo n xs
 

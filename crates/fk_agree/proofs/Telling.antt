@@ -8,7 +8,7 @@ use Rattle.fk_print.specs.declared.op.Op.{Op}
 use Rattle.fk_print.specs.declared.op.Op.TheVariants as op
 use Rattle.fk_tree.specs.declared.request.Request.{Request}
 use Rattle.fk_wire.specs.declared.message.Pushed.{Pushed}
-use Rattle.fk_stand.specs.Messages.{push_message, push_message_of, push_with}
+use Rattle.fk_stand.specs.Messages.{push_message_of, push_with}
 use Rattle.fk_stand.specs.Messages as messages
 use Rattle.fk_spec.specs.Plan.{Plan}
 use Rattle.fk_spec.specs.Start.{Follows, Push, clock_of, or_else, push_here, push_of, pushed_in, pushed_of, request_of, task_of}

@@ -15,24 +15,23 @@ use Rattle.fk_watch.specs.Meaning.{Watches}
 use Rattle.fk_watch.specs.Registering as registering
 use Rattle.fk_watch.specs.Registering.{registered}
 use Rattle.fk_watch.specs.Sweeping as table
-use Rattle.fk_watch.specs.Sweeping.{fires, swept_for, told_for, unless}
+use Rattle.fk_watch.specs.Sweeping.{swept_for, told_for, unless}
 use Rattle.fk_watch.specs.declared.watch.Watch as kept
-use Rattle.fk_stand.specs.Stores as stand
 use Rattle.fk_stand.specs.Stores.{firing_as, watch_as, watches_after}
 use Rattle.fk_spec.specs.Plan.{Plan, asked}
 use Rattle.fk_spec.specs.Start.{or_else}
 use Rattle.fk_spec.specs.Settling.{swept_in, swept_of}
 use Rattle.fk_spec.specs.Watches.{Watch, fired_watches, firing_with, firings, given_of, has_id, last_sweep, not_fired, set_after, set_watches, sweep_of_path, touches_of_push, watch_asked}
 use Rattle.fk_spec.specs.Next.{IsHistory}
+use Rattle.fk_spec.specs.WatchNumbers.{watch_with}
 use Rattle.fk_law.specs.Due.{IsDue}
 use Rattle.fk_law.proofs.Due.{due}
 use Rattle.fk_law_watch.specs.Registering.{IsRegistration, Registers}
-use Rattle.fk_law_watch.specs.SetWatches.{watch_with}
 use Rattle.fk_law_watch.proofs.Listing.{append_with, has_is}
 use Rattle.fk_law_watch.proofs.Registering.{watches_are_registered}
 use Rattle.fk_law_watch.proofs.SetWatches.{IsNewWatch, or_none, set_cases, set_or_fired_were_given, watches_unique}
 use Rattle.fk_agree.specs.Watched.{LeavesWatches, NewWatchesStand, RegistrationIsWritten, SweepIsWritten, ToldIsWritten, WatchesStay}
-use Rattle.fk_agree.proofs.Firing.{fired_as_before, fired_once, fires_as, fires_no_more, firing_append, stays_as, told_with, with_is}
+use Rattle.fk_agree.proofs.Firing.{fired_as_before, fired_once, fires_as, fires_no_more, firing_append, stays_as, told_with}
 
 -- At the start, and where nothing changes it. -----------------------------------------------------------
 
@@ -70,22 +69,20 @@ swept_last p t path h b =
     let a = last_at_most_swept p path h in
     ap (λ m. cond (has_touch path (touches_of_push p t h)) m (last_sweep p path h)) (beyond t (last_sweep p path h) (omega (arith, a, b)))
 
-swept_set : (p : Plan) (t id : ℕ) (h : List Entry) → IsHistory p h → (swept_for t (touches_of_push p t h) (watches_after p h 0)).set id ≡ option_map watch_as (stand.watch_with id (not_fired (touches_of_push p t h) (set_watches p h)))
+swept_set : (p : Plan) (t id : ℕ) (h : List Entry) → IsHistory p h → (swept_for t (touches_of_push p t h) (watches_after p h 0)).set id ≡ option_map watch_as (watch_with id (not_fired (touches_of_push p t h) (set_watches p h)))
 swept_set p t id h l =
     let ts = touches_of_push p t h in
     let ws = set_watches p h in
-    ap (λ o. unless (fires t ts (option_map watch_as o)) (option_map watch_as o)) (with_is id ws)
-    ∙ (ap (λ f. unless f (option_map watch_as (watch_with id ws))) (fires_as id t ts ws (watches_unique p h l))
-    ∙ (stays_as id t ts ws (watches_unique p h l) ∙ ap (option_map watch_as) (sym (with_is id (not_fired ts ws)))))
+    ap (λ f. unless f (option_map watch_as (watch_with id ws))) (fires_as id t ts ws (watches_unique p h l))
+    ∙ stays_as id t ts ws (watches_unique p h l)
 
 swept_fired : (p : Plan) (n t k id : ℕ) (h : List Entry) → IsHistory p h → IsDue p h (op.SweepOk n t k) → (swept_for t (touches_of_push p t h) (watches_after p h 0)).fired id ≡ option_map firing_as (firing_with id (fired_watches p h ++ firings t (touches_of_push p t h) (set_watches p h)))
 swept_fired p n t k id h l d =
     let ts = touches_of_push p t h in
     let ws = set_watches p h in
     let fs = fired_watches p h in
-    ap (λ o. table.or_else (fires t ts (option_map watch_as o)) (option_map firing_as (firing_with id fs))) (with_is id ws)
-    ∙ (ap (λ f. table.or_else f (option_map firing_as (firing_with id fs))) (fires_as id t ts ws (watches_unique p h l))
-    ∙ (fired_as_before (firing_with id (firings t ts ws)) (firing_with id fs) (fires_no_more p id n t k h l d) ∙ ap (option_map firing_as) (sym (firing_append id fs (firings t ts ws)))))
+    ap (λ f. table.or_else f (option_map firing_as (firing_with id fs))) (fires_as id t ts ws (watches_unique p h l))
+    ∙ (fired_as_before (firing_with id (firings t ts ws)) (firing_with id fs) (fires_no_more p id n t k h l d) ∙ ap (option_map firing_as) (sym (firing_append id fs (firings t ts ws))))
 
 swept_watches : (p : Plan) (v : Event) (ls : List Line) (n t k faults : ℕ) (h : List Entry) → IsHistory p h → IsDue p h (op.SweepOk n t k) → swept_for t (touches_of_push p t h) (watches_after p h faults) ≡ watches_after p (sweeping v ls n t k h) faults
 swept_watches p v ls n t k faults h l d = λ j. record {
@@ -138,8 +135,8 @@ old_watch p v ls c i id faults h w l a b = ap (λ x. register x w id (watches_af
     is_there None = refl
     is_there (Some x) = refl
 
-    there : is_some (option_map watch_as (stand.watch_with id (set_watches p h))) ≡ true
-    there = is_there (stand.watch_with id (set_watches p h)) ∙ (ap is_some (with_is id (set_watches p h)) ∙ (sym (has_is id (set_watches p h)) ∙ a))
+    there : is_some (option_map watch_as (watch_with id (set_watches p h))) ≡ true
+    there = is_there (watch_with id (set_watches p h)) ∙ (sym (has_is id (set_watches p h)) ∙ a)
 
     most : (m : ℕ) → id ≤ m → m ≡ max id m
     most m c = omega (arith, c)
@@ -147,7 +144,7 @@ old_watch p v ls c i id faults h w l a b = ap (λ x. register x w id (watches_af
     same : watches_after p h faults ≡ watches_after p (setting v ls c i id h) faults
     same = λ j. record {
       given = (most (given_of h) (set_or_fired_were_given p id h l (inl (sym (has_is id (set_watches p h)) ∙ a))).1) j;
-      set = λ x. option_map watch_as (stand.watch_with x ((sym b) j));
+      set = λ x. option_map watch_as (watch_with x ((sym b) j));
       fired = (watches_after p h faults).fired;
       swept = swept_of h;
       last = (watches_after p h faults).last;
@@ -156,10 +153,10 @@ old_watch p v ls c i id faults h w l a b = ap (λ x. register x w id (watches_af
     }
 
 -- one that isn't gets the next number
-new_at : (p : Plan) (id x : ℕ) (h : List Entry) (w : Watch) (ws : List Watch) → w.id ≡ id → IsNewWatch p h w ws → cond (x == id) (Some (watch_as w)) (option_map watch_as (stand.watch_with x (set_watches p h))) ≡ option_map watch_as (stand.watch_with x ws)
+new_at : (p : Plan) (id x : ℕ) (h : List Entry) (w : Watch) (ws : List Watch) → w.id ≡ id → IsNewWatch p h w ws → cond (x == id) (Some (watch_as w)) (option_map watch_as (watch_with x (set_watches p h))) ≡ option_map watch_as (watch_with x ws)
 new_at p id x h w ws m y =
     one (x == id) (w.id == x) refl refl
-    ∙ ap (option_map watch_as) (sym (append_with x (set_watches p h) w) ∙ (ap (watch_with x) (sym y.appended) ∙ sym (with_is x ws)))
+    ∙ ap (option_map watch_as) (sym (append_with x (set_watches p h) w) ∙ ap (watch_with x) (sym y.appended))
   where
     absent : x ≡ w.id → watch_with x (set_watches p h) ≡ None
     absent e = none (watch_with x (set_watches p h)) (sym (has_is x (set_watches p h)) ∙ (ap (λ z. has_id z (set_watches p h)) e ∙ y.absent))
@@ -174,11 +171,11 @@ new_at p id x h w ws m y =
     clash : (b c : Bool) → (x == id) ≡ b → (w.id == x) ≡ c → b ≡ c
     clash b c f g = let k = m in grind (arith, nat_tests)
 
-    one : (b c : Bool) → (x == id) ≡ b → (w.id == x) ≡ c → cond b (Some (watch_as w)) (option_map watch_as (stand.watch_with x (set_watches p h))) ≡ option_map watch_as (or_else (watch_with x (set_watches p h)) (cond c (Some w) None))
+    one : (b c : Bool) → (x == id) ≡ b → (w.id == x) ≡ c → cond b (Some (watch_as w)) (option_map watch_as (watch_with x (set_watches p h))) ≡ option_map watch_as (or_else (watch_with x (set_watches p h)) (cond c (Some w) None))
     one true true f g = sym (ap (λ o. option_map watch_as (or_else o (Some w))) (absent (same f)))
     one true false f g = absurd (false≢true (sym (clash true false f g)))
     one false true f g = absurd (false≢true (clash false true f g))
-    one false false f g = ap (option_map watch_as) (with_is x (set_watches p h) ∙ sym (or_none (watch_with x (set_watches p h))))
+    one false false f g = ap (option_map watch_as) (sym (or_none (watch_with x (set_watches p h))))
 
 new_watch : (p : Plan) (v : Event) (ls : List Line) (c i id faults : ℕ) (h : List Entry) (w : Watch) → w.id ≡ id → IsNewWatch p h w (set_after p h (op.WatchSet c i id) (set_watches p h)) → registered (watch_as w) id (watches_after p h faults) ≡ watches_after p (setting v ls c i id h) faults
 new_watch p v ls c i id faults h w m y = ap (λ x. register x (watch_as w) id (watches_after p h faults)) absent ∙ set
@@ -187,8 +184,8 @@ new_watch p v ls c i id faults h w m y = ap (λ x. register x (watch_as w) id (w
     is_there None = refl
     is_there (Some x) = refl
 
-    absent : is_some (option_map watch_as (stand.watch_with id (set_watches p h))) ≡ false
-    absent = is_there (stand.watch_with id (set_watches p h)) ∙ (ap is_some (with_is id (set_watches p h)) ∙ (sym (has_is id (set_watches p h)) ∙ (ap (λ x. has_id x (set_watches p h)) (sym m) ∙ y.absent)))
+    absent : is_some (option_map watch_as (watch_with id (set_watches p h))) ≡ false
+    absent = is_there (watch_with id (set_watches p h)) ∙ (sym (has_is id (set_watches p h)) ∙ (ap (λ x. has_id x (set_watches p h)) (sym m) ∙ y.absent))
 
     next : (j m : ℕ) → j ≡ m + 1 → j ≡ max j m
     next j m e = omega (arith, e)

@@ -1,8 +1,6 @@
 -- What the writes of a commit make of the records, path by path and session by session.
-use Rattle.std.specs.Prelude.{◌==◌}
-use Rattle.std.proofs.Common.{◌≡◌, arith, ℕ, ◌++◌, Bool, true, false, cond, ◌||◌, List, [], ◌∷◌, refl, sym, ◌∙◌, ap, Option, Some, None}
+use Rattle.std.proofs.Common.{◌≡◌, ℕ, ◌++◌, Bool, true, false, cond, ◌||◌, List, [], ◌∷◌, refl, sym, ◌∙◌, ap, Option, Some, None}
 use Rattle.std.proofs.lemmas.Bool.{false≢true}
-use Rattle.std.proofs.lemmas.Bool.Decides.{nat_tests}
 use Rattle.fk_base.specs.Path.{PathNames, same_path}
 use Rattle.fk_tree.specs.Edit.{edit, edited}
 use Rattle.fk_tree.specs.Sorted.{has_path}
@@ -130,7 +128,3 @@ changes_leave_done tx moment (e ∷ es) d = changes_leave_done tx moment es d
 pub releases_leave_done : (ps : List PathNames) (d : ℕ) → done_written (release_writes ps) d ≡ d
 releases_leave_done [] d = refl
 releases_leave_done (x ∷ ps) d = releases_leave_done ps d
-
--- a number is itself
-pub same_number : (n : ℕ) → (n == n) ≡ true
-same_number n = grind (arith, nat_tests)

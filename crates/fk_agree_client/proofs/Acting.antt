@@ -1,8 +1,6 @@
 -- The operation that a client makes, and what it comes to, whatever its message tells beside what the rules know.
-use Rattle.std.specs.Prelude.{◌==◌, ◌&&◌, ◌++◌, if◌then◌else◌}
-use Rattle.std.proofs.Common.{◌≡◌, ℕ, Bool, true, false, cond, List, [], ◌∷◌, refl, sym, ◌∙◌, ap, subst, arith, Option, Some, None}
-use Rattle.std.proofs.lemmas.Bool.{false≢true}
-use Rattle.std.proofs.lemmas.Bool.Decides.{nat_tests}
+use Rattle.std.proofs.Common.{◌≡◌, ℕ, true, false, cond, List, ◌∷◌, refl, sym, ◌∙◌, ap, subst, Option, Some, None}
+use Rattle.std.proofs.lemmas.Option.{same_Some, none-some}
 use Rattle.fk_print.specs.declared.entry.Entry.{Entry}
 use Rattle.fk_print.specs.declared.op.Op.{Op}
 use Rattle.fk_print.specs.declared.op.Op.TheVariants as op
@@ -13,25 +11,24 @@ use Rattle.fk_watch.specs.Meaning as watches
 use Rattle.fk_watch.specs.Meaning.{Watches}
 use Rattle.fk_wire.specs.declared.message.Tell.{Tell}
 use Rattle.fk_wire.specs.declared.message.Tell.TheVariants as tell
-use Rattle.fk_stand.specs.Messages.{done_tell, kept_tell, push_message_of, tell_of}
+use Rattle.fk_stand.specs.Messages.{done_tell, push_message_of}
 use Rattle.fk_stand.specs.Posts.{post_after}
 use Rattle.fk_stand.specs.Stores.{store_after, watches_after}
 use Rattle.fk_stand.specs.Tables.{table_after}
-use Rattle.fk_spec.specs.Plan.{Plan, asks_in, is_client}
+use Rattle.fk_spec.specs.Plan.{Plan, is_client}
 use Rattle.fk_spec.specs.Settling.{Outcome, Committed, Refused, Passed}
 use Rattle.fk_spec.specs.Lanes.{Message, Done, Kept, inbox_of}
-use Rattle.fk_spec.specs.Client.{Client, Result, Sent, acted, acted_by, by_result, client_in, client_of, client_op, failed_op, flushed, kept_outcome, client_by, Settled, op_of_client, result_told, settled_as}
-use Rattle.fk_spec.specs.Sight.{Sight, first_message, sight_of}
+use Rattle.fk_spec.specs.Client.{Client, Sent, acted, acted_by, by_result, client_in, client_of, client_op, failed_op, flushed, kept_outcome, client_by, Settled, op_of_client, settled_as}
+use Rattle.fk_spec.specs.Sight.{first_message, sight_of}
 use Rattle.fk_spec.specs.Next.{IsHistory}
 use Rattle.fk_law.specs.Due.{IsDue}
-use Rattle.fk_law_client.proofs.Messages.{none_some, some_same}
 use Rattle.fk_client.specs.Knowing.{client_known, told_known}
 use Rattle.fk_client.specs.Known.{by_outcome}
-use Rattle.fk_client.specs.Meaning.{Meaning}
 use Rattle.fk_client.specs.Operation.{calm_op, failed_if, is_armed, step_op}
-use Rattle.fk_client.specs.Sighting.{outcome_told, sight_by}
+use Rattle.fk_client.specs.Sighting.{outcome_told}
 use Rattle.fk_client.specs.declared.unanswered.Unanswered.{Unanswered}
 use Rattle.fk_client.proofs.Same.{comes_to_the_same, makes_the_same}
+use Rattle.fk_law.proofs.Numbers.{itself}
 use Rattle.fk_agree_client.specs.Inbox.{FirstTells}
 use Rattle.fk_agree_client.specs.Standing.{standing}
 use Rattle.fk_agree_client.proofs.Inbox.{mapped}
@@ -90,32 +87,29 @@ done_known p k tx h ms (Some t) i = let x = mapped (done_tell k tx) (push_messag
 
 kept_known : (p : Plan) (k : ℕ) (o : Outcome) (h : List Entry) (ms : List Message) (told : Option Tell) → FirstTells p h (Kept k o ∷ ms) told → told_known (outcome_told told) ≡ Some (Settled o)
 kept_known p k o h ms None i = absurd i
-kept_known p k (Committed tx) h ms (Some t) i = absurd (none_some t i)
-kept_known p k (Refused code place at) h ms (Some t) i = sym (ap (λ z. told_known (outcome_told (Some z))) (some_same (tell.Refused k code at place) t i))
-kept_known p k (Passed None) h ms (Some t) i = absurd (none_some t i)
-kept_known p k (Passed (Some loss)) h ms (Some t) i = sym (ap (λ z. told_known (outcome_told (Some z))) (some_same (tell.Lost k loss.path loss.own loss.found loss.moment) t i))
+kept_known p k (Committed tx) h ms (Some t) i = absurd (none-some t i)
+kept_known p k (Refused code place at) h ms (Some t) i = sym (ap (λ z. told_known (outcome_told (Some z))) (same_Some (tell.Refused k code at place) t i))
+kept_known p k (Passed None) h ms (Some t) i = absurd (none-some t i)
+kept_known p k (Passed (Some loss)) h ms (Some t) i = sym (ap (λ z. told_known (outcome_told (Some z))) (same_Some (tell.Lost k loss.path loss.own loss.found loss.moment) t i))
 
 -- the rules' client comes to the same by what its message tells and by what the rules read there
 pub told_fits : (p : Plan) (c : ℕ) (h : List Entry) (told : Option Tell) (o : Op) (y : Client Sent) → IsDue p h o → client_in o ≡ Some c → FirstTells p h (inbox_of p c h) told
     → acted by_result (told_sight p c h told) (told_known (outcome_told told)) o y ≡ acted_by (sight_of p c h) o y
 told_fits p c h told (op.TakeDone d k tx) y i e r =
-    let s = some_same d c e in
+    let s = same_Some d c e in
     ap (λ z. acted by_result (told_sight p c h told) z (op.TakeDone d k tx) y) (done_known p k tx h i.0 told (subst (λ ms. FirstTells p h ms told) (subst (λ z. inbox_of p z h ≡ Done k tx ∷ i.0) s i.1) r))
 told_fits p c h told (op.TakeRefused d k) y i e r =
-    let s = some_same d c e in
+    let s = same_Some d c e in
     let g = subst (λ z. inbox_of p z h ≡ Kept k i.0 ∷ i.1) s i.2 in
     ap (λ z. acted by_result (told_sight p c h told) z (op.TakeRefused d k) y) (kept_known p k i.0 h i.1 told (subst (λ ms. FirstTells p h ms told) g r) ∙ sym (ap (λ ms. settled_as (kept_outcome (first_message ms))) g))
 told_fits p c h told (op.TakeLost d k) y i e r =
-    let s = some_same d c e in
+    let s = same_Some d c e in
     let g = subst (λ z. inbox_of p z h ≡ Kept k (Passed i.0) ∷ i.1) s i.2 in
     ap (λ z. acted by_result (told_sight p c h told) z (op.TakeLost d k) y) (kept_known p k (Passed i.0) h i.1 told (subst (λ ms. FirstTells p h ms told) g r) ∙ sym (ap (λ ms. settled_as (kept_outcome (first_message ms))) g))
 told_fits p c h told o y i e r = refl
 
-same_self : (c : ℕ) → (c == c) ≡ true
-same_self c = grind (arith, nat_tests)
-
 pub client_after : (p : Plan) (c : ℕ) (e : Entry) (h : List Entry) → client_in e.op ≡ Some c → client_of p c (e ∷ h) ≡ flushed by_result (acted_by (sight_of p c h) e.op (client_of p c h))
-client_after p c e h q = ap (λ o. client_by (sight_of p c h) o e.op (client_of p c h)) q ∙ ap (λ b. cond b (flushed by_result (acted_by (sight_of p c h) e.op (client_of p c h))) (client_of p c h)) (same_self c)
+client_after p c e h q = ap (λ o. client_by (sight_of p c h) o e.op (client_of p c h)) q ∙ ap (λ b. cond b (flushed by_result (acted_by (sight_of p c h) e.op (client_of p c h))) (client_of p c h)) (itself c)
 
 pub known_after : (p : Plan) (c : ℕ) (e : Entry) (h : List Entry) (told : Option Tell) (x : Client Unanswered) → client_in e.op ≡ Some c → IsDue p h e.op → client_known x ≡ client_of p c h → FirstTells p h (inbox_of p c h) told
     → client_known (flushed by_outcome (acted by_outcome (told_sight p c h told) (outcome_told told) e.op x)) ≡ client_of p c (e ∷ h)

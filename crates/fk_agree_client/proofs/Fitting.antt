@@ -1,7 +1,6 @@
 -- When a client has nothing to do, and what its operation needs.
-use Rattle.std.specs.Prelude.{◌==◌, nat_lt, nat_le, ◌&&◌, not, is_none, is_some, if◌then◌else◌, ◌-◌, ◌^◌}
-use Rattle.std.proofs.Common.{◌≡◌, ℕ, ◌+◌, ◌<◌, ◌≤◌, Bool, true, false, cond, List, [], ◌∷◌, length, refl, sym, ◌∙◌, ap, subst, arith, Option, Some, None}
-use Rattle.std.proofs.lemmas.Bool.Decides.{nat_tests}
+use Rattle.std.specs.Prelude.{nat_lt, ◌&&◌, not, is_none, is_some, if◌then◌else◌, ◌-◌, ◌^◌}
+use Rattle.std.proofs.Common.{◌≡◌, ℕ, ◌+◌, ◌<◌, Bool, true, false, List, [], ◌∷◌, length, refl, sym, ◌∙◌, ap, subst, arith, Option, Some, None}
 use Rattle.fk_tree.proofs.Order.{by_test}
 use Rattle.fk_tree.specs.Ask.{path_asked}
 use Rattle.fk_tree.specs.Watch.{kind_asked}
@@ -10,7 +9,6 @@ use Rattle.fk_print.specs.declared.entry.Entry.{Entry}
 use Rattle.fk_print.specs.declared.op.Op.{Op}
 use Rattle.fk_print.specs.declared.op.Op.TheVariants as op
 use Rattle.fk_queue.specs.Lanes.{is_session}
-use Rattle.fk_queue.specs.Meaning as post
 use Rattle.fk_queue.specs.declared.lane.Lane.{Lane}
 use Rattle.fk_queue.specs.declared.lane.Lane.TheVariants as lane
 use Rattle.fk_queue.specs.declared.letter.Letter.{Letter}
@@ -18,22 +16,20 @@ use Rattle.fk_wire.specs.Limits.{IsLimitedRequest, IsNumber}
 use Rattle.fk_wire.specs.declared.version.Version.TheVariants as version
 use Rattle.fk_stand.specs.Posts.{lane_after, post_after}
 use Rattle.fk_stand.proofs.Counting.{lanes_are_bounded}
-use Rattle.fk_spec.specs.Plan.{Plan, Ask, Want, Unfit, Writes, Reads, asked, asks_in, is_client, nth}
-use Rattle.fk_spec.specs.Start.{pushes_of, request_in, written}
-use Rattle.fk_spec.specs.Settling.{Outcome, Committed, Refused, Passed, mark_of}
+use Rattle.fk_spec.specs.Plan.{Plan, Ask, Want, Unfit, Writes, Reads, asks_in, is_client}
+use Rattle.fk_spec.specs.Start.{request_in, written}
+use Rattle.fk_spec.specs.Settling.{Outcome, Committed, Refused, Passed}
 use Rattle.fk_spec.specs.Shown.{seen_by}
-use Rattle.fk_spec.specs.Watches.{given_of}
 use Rattle.fk_spec.specs.Lanes.{Message, Done, Evicted, Kept, Watch, Ping, inbox_of}
 use Rattle.fk_spec.specs.Sight.{Sight, first_message, sight_of}
-use Rattle.fk_spec.specs.Client.{Client, Keeping, Reading, Target, begin_asked, begin_op, by_result, client_of, client_op, first_held, held_op, local_if, look_op, look_or, may_begin, next_asked, number_read, op_of_client, pong_or, register_asked, register_for, register_op, take_op, take_or, target_of, watch_or}
+use Rattle.fk_spec.specs.Client.{Client, Reading, Target, begin_asked, begin_op, by_result, client_of, client_op, first_held, held_op, local_if, look_op, look_or, may_begin, next_asked, number_read, op_of_client, pong_or, register_asked, register_for, take_op, take_or, target_of, watch_or}
 use Rattle.fk_spec.specs.Schedule as schedule
 use Rattle.fk_spec.specs.Next.{IsHistory}
-use Rattle.fk_law_watch.specs.FirstNumbers.{ReadsAreReads}
 use Rattle.fk_law_watch.proofs.Counting.{pushes_are_bounded}
 use Rattle.fk_law_watch.proofs.SetWatches.{given_are_bounded}
 use Rattle.fk_law_client.proofs.Pushed.{mark_pushed}
 use Rattle.fk_law_client.proofs.Seen.{seen_published}
-use Rattle.fk_client.specs.Fit.{IsFit, IsLimitedAsk, IsLimitedWant}
+use Rattle.fk_client.specs.Fit.{IsLimitedAsk, IsLimitedWant}
 use Rattle.fk_client.specs.Idle.{holds_none, is_idle, owes_none, waits_next, waits_reading}
 use Rattle.fk_client.specs.Knowing.{client_known}
 use Rattle.fk_client.specs.Known.{by_outcome}
@@ -43,8 +39,8 @@ use Rattle.fk_client.specs.declared.unanswered.Unanswered.{Unanswered}
 use Rattle.fk_client.proofs.Same.{makes_the_same}
 use Rattle.fk_agree.proofs.Serving.{lane_is, session_there}
 use Rattle.fk_agree_client.specs.Inbox.{AllSay, CanBeSaid}
-use Rattle.fk_agree_client.specs.Serving.{AsksWithinLimits, ClientIsFit, ClientIsIdle}
-use Rattle.fk_agree_client.specs.Standing.{IsClient, standing}
+use Rattle.fk_agree_client.specs.Serving.{ClientIsFit, ClientIsIdle}
+use Rattle.fk_agree_client.specs.Standing.{standing}
 use Rattle.fk_agree_client.proofs.Inbox.{inbox_says_its_messages}
 
 -- What is no operation. ----------------------------------------------------------------------------------

@@ -1,42 +1,38 @@
 -- A client goes on from where it stands to where the longer history says.
-use Rattle.std.specs.Prelude.{◌==◌, ◌++◌, if◌then◌else◌}
-use Rattle.std.proofs.Common.{◌≡◌, ℕ, Bool, true, false, cond, List, [], ◌∷◌, refl, sym, ◌∙◌, ap, subst, arith, Option, Some, None}
-use Rattle.std.proofs.lemmas.Bool.Decides.{nat_tests}
+use Rattle.std.specs.Prelude.{◌==◌, ◌++◌}
+use Rattle.std.proofs.Common.{◌≡◌, ℕ, Bool, true, false, cond, List, ◌∷◌, refl, sym, ◌∙◌, ap, Option, Some, None}
+use Rattle.std.proofs.lemmas.Bool.{eqb-true}
 use Rattle.fk_print.specs.declared.entry.Entry.{Entry}
-use Rattle.fk_print.specs.declared.line.Line.{Line}
 use Rattle.fk_print.specs.declared.op.Op.{Op}
 use Rattle.fk_queue.specs.Meaning as post
 use Rattle.fk_store.specs.Meaning as table
 use Rattle.fk_user.specs.Meaning as user
 use Rattle.fk_watch.specs.Meaning as watches
-use Rattle.fk_watch.specs.Meaning.{Watches}
 use Rattle.fk_wire.specs.declared.message.Tell.{Tell}
 use Rattle.fk_stand.specs.Posts.{post_after}
-use Rattle.fk_stand.specs.Standing.{Standing}
 use Rattle.fk_stand.specs.Stores.{store_after, watches_after}
-use Rattle.fk_stand.specs.Tables.{table_after}
 use Rattle.fk_spec.specs.Plan.{Plan, asks_in, is_client}
 use Rattle.fk_spec.specs.Shown.{seen_by, seen_lines}
 use Rattle.fk_spec.specs.Lanes.{inbox_of}
-use Rattle.fk_spec.specs.Client.{Client, acted, acted_by, by_result, client_by, client_in, client_of, client_op, failed_op, flushed, ready_first}
+use Rattle.fk_spec.specs.Client.{Client, acted, acted_by, by_result, client_by, client_in, client_of, flushed, ready_first}
 use Rattle.fk_spec.specs.Sight.{sight_of}
-use Rattle.fk_spec.specs.Replies.{client_lines, own_lines, reply_lines}
+use Rattle.fk_spec.specs.Replies.{own_lines, reply_lines}
 use Rattle.fk_spec.specs.Next.{IsHistory, next_lines}
 use Rattle.fk_law.specs.Due.{IsDue}
 use Rattle.fk_law.proofs.Due.{due}
 use Rattle.fk_law_watch.specs.FirstNumbers.{ReadsAreReads}
 use Rattle.fk_law_watch.proofs.Reading.{client_unseen, next_is, none_unseen, seen_append}
-use Rattle.fk_law_client.proofs.Messages.{same_number}
 use Rattle.fk_client.specs.Knowing.{client_known, told_known}
 use Rattle.fk_client.specs.Known.{by_outcome}
 use Rattle.fk_client.specs.Meaning.{Meaning, new_client}
 use Rattle.fk_client.specs.Operation.{step_op}
-use Rattle.fk_client.specs.Shown.{after_by, lines_by, lines_in, made_in, printed, ready_lines, wording_of}
+use Rattle.fk_client.specs.Shown.{after_by, lines_by, lines_in, made_in, ready_lines, wording_of}
 use Rattle.fk_client.specs.Sighting.{outcome_told, sight_by}
 use Rattle.fk_client.specs.declared.unanswered.Unanswered.{Unanswered}
 use Rattle.fk_client.proofs.Same.{same_acted}
+use Rattle.fk_law.proofs.Printing.{lines_are as history_lines}
 use Rattle.fk_agree_client.specs.Inbox.{FirstTells}
-use Rattle.fk_agree_client.specs.Standing.{AllTell, Holds, IsClient, standing}
+use Rattle.fk_agree_client.specs.Standing.{AllTell, Holds, standing}
 use Rattle.fk_agree_client.specs.Making.{ClientFails, ClientGoesOn, ClientMakesItsOp, ClientPrintsItsLines, Looks, NewClientStands, OthersLeaveIt}
 use Rattle.fk_agree_client.proofs.Acting.{failed_is, known_after, op_is, told_fits}
 use Rattle.fk_agree_client.proofs.Printing.{lines_are}
@@ -53,9 +49,6 @@ acted_known : (p : Plan) (c : ℕ) (h : List Entry) (told : Option Tell) (o : Op
 acted_known p c h told o x d e k r =
     same_acted (told_sight p c h told) (outcome_told told) o x
     ∙ (ap (acted by_result (told_sight p c h told) (told_known (outcome_told told)) o) k ∙ told_fits p c h told o (client_of p c h) d e r)
-
-printed_lines : (p : Plan) (e : Entry) (h : List Entry) → IsHistory p (e ∷ h) → e.lines ≡ next_lines p h e.op
-printed_lines p e h l = ap (λ x. x.lines) l.1.0 ∙ ap (next_lines p h) (sym (ap (λ x. x.op) l.1.0))
 
 -- a client of these services and this history, and what it reads
 record IsAt (p : Plan) (c : ℕ) (e : Entry) (h : List Entry) (told : Option Tell) (x : Client Unanswered) : Type 0 where
@@ -74,7 +67,7 @@ lines_at : (p : Plan) (c fq fw fu : ℕ) (e : Entry) (h : List Entry) (told : Op
 lines_at p c fq fw fu e h told x i =
     ap (λ s. own_lines (wording_of c (asks_in p c)) s x e.op ++ reply_lines (wording_of c (asks_in p c)) (ready_first by_outcome (acted by_outcome s (outcome_told told) e.op x).sent)) (sights_agree p c fq fw fu h told x i.history.0 i.client i.head)
     ∙ (lines_are p c h told x (acted_as p c h told e.op x) e.op (due p e h i.history) i.own i.head i.holds.told (after_tells p c e h told x i) i.holds.known (acted_known p c h told e.op x (due p e h i.history) i.own i.holds.known i.head)
-    ∙ (sym (next_is p h c e.op i.own) ∙ sym (printed_lines p e h i.history)))
+    ∙ (sym (next_is p h c e.op i.own) ∙ sym (history_lines p e h i.history)))
 
 seen_at : (p : Plan) (c fq fw fu : ℕ) (e : Entry) (h : List Entry) (told : Option Tell) (x : Client Unanswered) → IsAt p c e h told x
     → (after_by (post_after p h fq) (watches_after p h fw) (store_after p h fu) told e.op (standing p c h x)).seen ≡ seen_by c (e ∷ h)
@@ -104,11 +97,11 @@ other_number : (s c : ℕ) → (Some s ≡ Some c → ⊥) → (s == c) ≡ fals
 other_number s c n = by_number (s == c) refl
   where
     by_number : (b : Bool) → (s == c) ≡ b → b ≡ false
-    by_number true e = absurd (n (ap Some (same_number s c e)))
+    by_number true e = absurd (n (ap Some (eqb-true s c e)))
     by_number false e = refl
 
 unseen : (p : Plan) (c : ℕ) (e : Entry) (h : List Entry) → IsHistory p (e ∷ h) → (client_in e.op ≡ Some c → ⊥) → seen_by c (e ∷ h) ≡ seen_by c h
-unseen p c e h l n = ap (λ ls. seen_lines c ls (seen_by c h)) (printed_lines p e h l) ∙ by_client (client_in e.op) refl
+unseen p c e h l n = ap (λ ls. seen_lines c ls (seen_by c h)) (history_lines p e h l) ∙ by_client (client_in e.op) refl
   where
     by_client : (o : Option ℕ) → client_in e.op ≡ o → seen_lines c (next_lines p h e.op) (seen_by c h) ≡ seen_by c h
     by_client None q = none_unseen p h c (seen_by c h) e.op q

@@ -1,30 +1,27 @@
 -- The letters of an inbox are the texts of its messages.
-use Rattle.std.specs.Prelude.{◌==◌, if◌then◌else◌, option_map, option_and_then}
-use Rattle.std.specs.Prelude.{⊤}
-use Rattle.std.proofs.Common.{◌≡◌, ℕ, ◌+◌, ◌++◌, Bool, true, false, List, [], ◌∷◌, refl, sym, ◌∙◌, ap, subst, arith, Option, Some, None}
+use Rattle.std.specs.Prelude.{option_map, option_and_then}
+use Rattle.std.proofs.Common.{◌≡◌, ℕ, ◌+◌, ◌++◌, Bool, true, false, List, [], ◌∷◌, refl, sym, ◌∙◌, ap, subst, Option, Some, None}
 use Rattle.std.proofs.lemmas.Bool.{false≢true}
-use Rattle.std.proofs.lemmas.Bool.Decides.{nat_tests}
+use Rattle.std.proofs.lemmas.Option.{same_Some, none-some}
 use Rattle.fk_print.specs.declared.entry.Entry.{Entry}
 use Rattle.fk_print.specs.declared.op.Op.{Op}
 use Rattle.fk_print.specs.declared.op.Op.TheVariants as op
 use Rattle.fk_queue.specs.declared.lane.Lane.TheVariants as lane
 use Rattle.fk_queue.specs.declared.letter.Letter.{Letter}
-use Rattle.fk_queue.specs.Letters.{LaneState, rest, with_letter}
+use Rattle.fk_queue.specs.Letters.{LaneState, rest}
 use Rattle.fk_watch.specs.Notes.{watch_tell}
-use Rattle.fk_wire.specs.TellText.{IsTell, IsTellText, tell_text}
-use Rattle.fk_wire.specs.declared.message.Pushed.{Pushed}
+use Rattle.fk_wire.specs.TellText.{tell_text}
 use Rattle.fk_wire.specs.declared.message.Tell.{Tell}
 use Rattle.fk_wire.specs.declared.message.Tell.TheVariants as tell
 use Rattle.fk_wire.specs.declared.version.Version.TheVariants as version
 use Rattle.fk_wire.proofs.TellBack.{tells}
 use Rattle.fk_wire.proofs.Texts.{one_message}
-use Rattle.fk_stand.specs.Messages.{done_tell, kept_tell, push_here, push_message_of, tell_message, tell_of}
+use Rattle.fk_stand.specs.Messages.{done_tell, kept_tell, push_here, push_message_of, tell_of}
 use Rattle.fk_stand.specs.Posts.{lane_after, lane_step, letter_in, removes}
 use Rattle.fk_spec.specs.Plan.{Plan}
 use Rattle.fk_spec.specs.Start.{or_else}
-use Rattle.fk_spec.specs.Locks.{Loss}
 use Rattle.fk_spec.specs.Settling.{Outcome, Committed, Refused, Passed, outcome_of}
-use Rattle.fk_spec.specs.Watches.{Firing, firing_in, firing_of}
+use Rattle.fk_spec.specs.Watches.{firing_in, firing_of}
 use Rattle.fk_spec.specs.Lanes.{Message, Done, Evicted, Kept, Watch, Ping, inbox_after, inbox_of, posted_in, takes, with_posted, without_first}
 use Rattle.fk_spec.specs.Next.{IsHistory}
 use Rattle.fk_law.specs.Due.{IsApplied}
@@ -32,15 +29,15 @@ use Rattle.fk_law.proofs.Finding.{lost_has_a_loss}
 use Rattle.fk_law_watch.proofs.SetWatches.{firing_never_changes}
 use Rattle.fk_law_watch.proofs.Telling.{announced_has_fired}
 use Rattle.fk_law_client.specs.Inboxes.{AreTrueMessages, IsTrueMessage}
-use Rattle.fk_law_client.proofs.Messages.{inbox_messages, none_some, some_same}
+use Rattle.fk_law_client.proofs.Messages.{inbox_messages}
 use Rattle.fk_client.specs.Told.{IsTold}
 use Rattle.fk_agree.proofs.Messages.{message_never_changes, push_has_its_message}
 use Rattle.fk_agree_client.specs.Inbox.{AllSay, CanBeSaid, FirstTells, HeadIsWhatItTells, InboxSaysItsMessages, Says}
 
 -- what an optional item was made of
 pub mapped : {A B : Type 0} → (f : A → B) (o : Option A) (y : B) → option_map f o ≡ Some y → (x : A) × (o ≡ Some x) × (f x ≡ y)
-mapped f None y e = absurd (none_some y e)
-mapped f (Some x) y e = (x, refl, some_same (f x) y e)
+mapped f None y e = absurd (none-some y e)
+mapped f (Some x) y e = (x, refl, same_Some (f x) y e)
 
 -- What a message tells stays. ----------------------------------------------------------------------------
 
@@ -92,11 +89,11 @@ last_true p c h (n ∷ ms) m i = last_true p c h ms m i.1
 
 -- a line that posts a message pushes nothing and fires nothing, so messages tell what they told
 no_push : (p : Plan) (c t : ℕ) (h : List Entry) (o : Op) (m : Message) → posted_in p c h o ≡ Some m → push_here p t h o ≡ None
-no_push p c t h (op.Push n s) m q = absurd (none_some m q)
+no_push p c t h (op.Push n s) m q = absurd (none-some m q)
 no_push p c t h o m q = refl
 
 no_firing : (p : Plan) (c id : ℕ) (h : List Entry) (o : Op) (m : Message) → posted_in p c h o ≡ Some m → firing_in p id h o ≡ None
-no_firing p c id h (op.SweepOk n t fired) m q = absurd (none_some m q)
+no_firing p c id h (op.SweepOk n t fired) m q = absurd (none-some m q)
 no_firing p c id h o m q = refl
 
 pub told_the_same : (p : Plan) (c : ℕ) (e : Entry) (h : List Entry) (m n : Message) → posted_in p c h e.op ≡ Some m → tell_of p (e ∷ h) n ≡ tell_of p h n
@@ -111,7 +108,7 @@ pub not_taken : (p : Plan) (c : ℕ) (h : List Entry) (o : Op) (m : Message) →
 not_taken p c h (op.Reply n s k) m q = refl
 not_taken p c h (op.Tell n s w) m q = refl
 not_taken p c h (op.Ping n s) m q = refl
-not_taken p c h o m q = absurd (none_some m q)
+not_taken p c h o m q = absurd (none-some m q)
 
 posted_is_true : (p : Plan) (c : ℕ) (e : Entry) (h : List Entry) (m : Message) → IsHistory p (e ∷ h) → posted_in p c h e.op ≡ Some m → IsTrueMessage p c (e ∷ h) m
 posted_is_true p c e h m l q =
@@ -164,7 +161,7 @@ none_taken p c h o q = refl
 
 inbox_step : (p : Plan) (c : ℕ) (e : Entry) (h : List Entry) (b : Bool) (o : Option Message) → takes c e.op ≡ b → posted_in p c h e.op ≡ o → IsHistory p (e ∷ h) → AllSay p (e ∷ h) (lane_after p (lane.Inbox c) h).waiting (inbox_of p c h) → SaysAfter p (e ∷ h) b (letter_for p h o) o (lane_after p (lane.Inbox c) h) (inbox_of p c h)
 inbox_step p c e h true None u v l i = took p (e ∷ h) (lane_after p (lane.Inbox c) h) (inbox_of p c h) i
-inbox_step p c e h true (Some m) u v l i = absurd (none_some m (sym (none_taken p c h e.op u) ∙ v))
+inbox_step p c e h true (Some m) u v l i = absurd (none-some m (sym (none_taken p c h e.op u) ∙ v))
 inbox_step p c e h false None u v l i = i
 inbox_step p c e h false (Some m) u v l i =
     let x = posted_tells p c e h m l v in

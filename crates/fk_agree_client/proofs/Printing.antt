@@ -1,28 +1,22 @@
 -- The lines that a client prints are those that the rules say.
-use Rattle.std.specs.Prelude.{◌==◌, ◌++◌, if◌then◌else◌}
-use Rattle.std.proofs.Common.{◌≡◌, ℕ, Bool, true, false, cond, List, [], ◌∷◌, refl, sym, ◌∙◌, ap, subst, arith, Option, Some, None}
+use Rattle.std.specs.Prelude.{◌++◌}
+use Rattle.std.proofs.Common.{◌≡◌, ℕ, cond, List, [], ◌∷◌, refl, sym, ◌∙◌, ap, subst, Option, Some, None}
+use Rattle.std.proofs.lemmas.Option.{same_Some}
 use Rattle.fk_tree.proofs.Order.{by_test}
 use Rattle.fk_print.specs.declared.entry.Entry.{Entry}
-use Rattle.fk_print.specs.declared.line.Line.{Line}
-use Rattle.fk_print.specs.declared.line.Shown.{Shown}
 use Rattle.fk_print.specs.declared.op.Op.{Op}
 use Rattle.fk_print.specs.declared.op.Op.TheVariants as op
 use Rattle.fk_wire.specs.declared.message.Tell.{Tell}
 use Rattle.fk_spec.specs.Plan.{Plan, Ask, asks_in, nth}
-use Rattle.fk_spec.specs.Start.{or_else}
 use Rattle.fk_spec.specs.Shown.{seen_by}
-use Rattle.fk_spec.specs.Stored.{committed_as}
 use Rattle.fk_spec.specs.Lanes.{Watch, inbox_of}
-use Rattle.fk_spec.specs.Client.{Client, Reading, Sent, acted, acted_by, by_result, client_in, client_of, contains, ready_first}
-use Rattle.fk_spec.specs.Sight.{Sight, sight_of}
-use Rattle.fk_spec.specs.Replies.{client_lines, first_line, line_for, looked_lines, notice_of, own_lines, reply_line, reply_lines, shown_applied, shown_reply, shown_result, wording}
-use Rattle.fk_spec.specs.Next.{IsHistory}
+use Rattle.fk_spec.specs.Client.{Client, Reading, Sent, acted_by, by_result, client_in, client_of, contains, ready_first}
+use Rattle.fk_spec.specs.Sight.{sight_of}
+use Rattle.fk_spec.specs.Replies.{client_lines, first_line, line_for, looked_lines, notice_of, own_lines, reply_line, reply_lines, shown_applied, shown_result, wording}
 use Rattle.fk_law.specs.Due.{IsDue}
-use Rattle.fk_law_client.proofs.Messages.{some_same}
-use Rattle.fk_client.specs.Knowing.{all_known, client_known, sent_known, told_known}
+use Rattle.fk_client.specs.Knowing.{all_known, client_known, sent_known}
 use Rattle.fk_client.specs.Known.{by_outcome, known}
-use Rattle.fk_client.specs.Shown.{shown_commit, shown_kept, shown_outcome, wording_of}
-use Rattle.fk_client.specs.Sighting.{firing_told, outcome_told}
+use Rattle.fk_client.specs.Shown.{shown_outcome, wording_of}
 use Rattle.fk_client.specs.declared.unanswered.Outcome as client
 use Rattle.fk_client.specs.declared.unanswered.Outcome.TheVariants as outcome
 use Rattle.fk_client.specs.declared.unanswered.Unanswered.{Unanswered}
@@ -65,7 +59,7 @@ looked_is p c h x (Some r) i = refl
 pub own_is : (p : Plan) (c : ℕ) (h : List Entry) (told : Option Tell) (x : Client Unanswered) (o : Op) → IsDue p h o → client_in o ≡ Some c → FirstTells p h (inbox_of p c h) told → AllTell p h (asks_in p c) x.sent
     → own_lines (wording_of c (asks_in p c)) (told_sight p c h told) x o ≡ own_lines (wording p c h) (sight_of p c h) (client_known x) o
 own_is p c h told x (op.TakeWatch d id) i e r a =
-    let s = some_same d c e in
+    let s = same_Some d c e in
     let g = subst (λ z. inbox_of p z h ≡ Watch id ∷ i.0) s i.1 in
     ap (λ f. cond (contains id x.held) (notice_of c f) []) (told_firing p id h i.0 told (subst (λ ms. FirstTells p h ms told) g r))
 own_is p c h told x (op.LookOk d j m) i e r a = looked_is p c h x x.reading a

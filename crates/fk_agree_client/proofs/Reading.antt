@@ -1,15 +1,14 @@
 -- What a client reads of services that stand as a history says is what the rules read of the history.
-use Rattle.std.specs.Prelude.{◌==◌, if◌then◌else◌, option_map}
+use Rattle.std.specs.Prelude.{◌==◌, if◌then◌else◌}
 use Rattle.std.proofs.Common.{◌≡◌, ℕ, ◌+◌, Bool, true, false, cond, List, [], ◌∷◌, length, refl, sym, ◌∙◌, ap, arith, Option, Some, None}
 use Rattle.std.proofs.lemmas.Bool.Decides.{nat_tests}
-use Rattle.fk_base.specs.Path.{PathNames}
-use Rattle.fk_tree.specs.declared.change.Kind.{Kind}
+use Rattle.std.proofs.lemmas.Option.{same_Some, none-some}
 use Rattle.fk_print.specs.declared.entry.Entry.{Entry}
 use Rattle.fk_print.specs.declared.op.Op.{Op}
 use Rattle.fk_print.specs.declared.op.Op.TheVariants as op
 use Rattle.fk_queue.specs.declared.lane.Lane.TheVariants as lane
 use Rattle.fk_queue.specs.Lanes.{is_lane}
-use Rattle.fk_queue.specs.Letters.{LaneState, empty_lane}
+use Rattle.fk_queue.specs.Letters.{empty_lane}
 use Rattle.fk_watch.specs.Notes.{watch_tell}
 use Rattle.fk_wire.specs.declared.message.Tell.{Tell}
 use Rattle.fk_wire.specs.declared.message.Tell.TheVariants as tell
@@ -23,13 +22,12 @@ use Rattle.fk_spec.specs.Settling.{Outcome, Committed, Refused, Passed, mark_of}
 use Rattle.fk_spec.specs.Stored.{record_of, stamp_of}
 use Rattle.fk_spec.specs.Watches.{Firing, firing_in, firing_of, firing_with, firings, last_sweep, published_epoch, set_watches, touches_of_push}
 use Rattle.fk_spec.specs.Lanes.{Message, Done, Evicted, Kept, Watch, Ping, inbox_of}
-use Rattle.fk_spec.specs.Sight.{Sight, first_message, sight_of, watch_number}
+use Rattle.fk_spec.specs.Sight.{Sight, first_message, sight_of}
 use Rattle.fk_spec.specs.Next.{IsHistory}
 use Rattle.fk_client.specs.Sighting.{firing_told, head_told, message_told, sight_by}
 use Rattle.fk_client.specs.declared.unanswered.Unanswered.{Unanswered}
 use Rattle.fk_spec.specs.Client.{Client}
 use Rattle.fk_agree.proofs.Counting.{lanes_are_counted}
-use Rattle.fk_law_client.proofs.Messages.{none_some, some_same}
 use Rattle.fk_agree_client.specs.Inbox.{FirstTells}
 use Rattle.fk_agree_client.specs.Standing.{standing}
 use Rattle.fk_agree_client.proofs.Inbox.{mapped}
@@ -38,11 +36,11 @@ use Rattle.fk_agree_client.proofs.Numbers.{numbers_agree}
 -- The head of the inbox. ---------------------------------------------------------------------------------
 
 with_its_number : (id : ℕ) (fs : List Firing) (f : Firing) → firing_with id fs ≡ Some f → f.watch.id ≡ id
-with_its_number id [] f q = absurd (none_some f q)
+with_its_number id [] f q = absurd (none-some f q)
 with_its_number id (g ∷ fs) f q = by_number (g.watch.id == id) refl q (λ r. with_its_number id fs f r)
   where
     by_number : (b : Bool) → (g.watch.id == id) ≡ b → (if b then Some g else firing_with id fs) ≡ Some f → (firing_with id fs ≡ Some f → f.watch.id ≡ id) → f.watch.id ≡ id
-    by_number true e q r = sym (ap (λ z. z.watch.id) (some_same g f q)) ∙ same e
+    by_number true e q r = sym (ap (λ z. z.watch.id) (same_Some g f q)) ∙ same e
       where
         same : (g.watch.id == id) ≡ true → g.watch.id ≡ id
         same e = grind (arith, nat_tests)
@@ -50,10 +48,10 @@ with_its_number id (g ∷ fs) f q = by_number (g.watch.id == id) refl q (λ r. w
 
 fired_here : (p : Plan) (id : ℕ) (h : List Entry) (f : Firing) (o : Op) → firing_in p id h o ≡ Some f → f.watch.id ≡ id
 fired_here p id h f (op.SweepOk n t fired) q = with_its_number id (firings t (touches_of_push p t h) (set_watches p h)) f q
-fired_here p id h f o q = absurd (none_some f q)
+fired_here p id h f o q = absurd (none-some f q)
 
 fired_number : (p : Plan) (id : ℕ) (h : List Entry) (f : Firing) → firing_of p id h ≡ Some f → f.watch.id ≡ id
-fired_number p id [] f q = absurd (none_some f q)
+fired_number p id [] f q = absurd (none-some f q)
 fired_number p id (e ∷ h) f q = by_line (firing_in p id h e.op) refl q (λ r. fired_number p id h f r)
   where
     by_line : (o : Option Firing) → firing_in p id h e.op ≡ o → or_else o (firing_of p id h) ≡ Some f → (firing_of p id h ≡ Some f → f.watch.id ≡ id) → f.watch.id ≡ id
@@ -61,18 +59,18 @@ fired_number p id (e ∷ h) f q = by_line (firing_in p id h e.op) refl q (λ r. 
     by_line (Some g) a q r = fired_here p id h f e.op (a ∙ q)
 
 kept_back : (k : ℕ) (o : Outcome) (t : Tell) → kept_tell k o ≡ Some t → message_told t ≡ Kept k o
-kept_back k (Committed tx) t q = absurd (none_some t q)
-kept_back k (Refused code place at) t q = sym (ap message_told (some_same (tell.Refused k code at place) t q))
-kept_back k (Passed None) t q = absurd (none_some t q)
-kept_back k (Passed (Some loss)) t q = sym (ap message_told (some_same (tell.Lost k loss.path loss.own loss.found loss.moment) t q))
+kept_back k (Committed tx) t q = absurd (none-some t q)
+kept_back k (Refused code place at) t q = sym (ap message_told (same_Some (tell.Refused k code at place) t q))
+kept_back k (Passed None) t q = absurd (none-some t q)
+kept_back k (Passed (Some loss)) t q = sym (ap message_told (same_Some (tell.Lost k loss.path loss.own loss.found loss.moment) t q))
 
 -- a message of the rules is what the message of the post tells
 pub told_back : (p : Plan) (h : List Entry) (m : Message) (t : Tell) → tell_of p h m ≡ Some t → message_told t ≡ m
 told_back p h (Done k tx) t q = let x = mapped (done_tell k tx) (push_message_of p tx h) t q in sym (ap message_told x.2)
-told_back p h (Evicted k tx) t q = sym (ap message_told (some_same (tell.Evicted k tx) t q))
+told_back p h (Evicted k tx) t q = sym (ap message_told (same_Some (tell.Evicted k tx) t q))
 told_back p h (Kept k o) t q = kept_back k o t q
 told_back p h (Watch id) t q = let x = mapped watch_tell (firing_of p id h) t q in sym (ap message_told x.2) ∙ ap Watch (fired_number p id h x.0 x.1)
-told_back p h (Ping n) t q = sym (ap message_told (some_same (tell.Ping n) t q))
+told_back p h (Ping n) t q = sym (ap message_told (same_Some (tell.Ping n) t q))
 
 first_is : (p : Plan) (h : List Entry) (ms : List Message) (told : Option Tell) → FirstTells p h ms told → head_told told ≡ first_message ms
 first_is p h [] None i = refl

@@ -1,11 +1,11 @@
 -- What commits told a client is what their pushes were committed as.
-use Rattle.std.specs.Prelude.{⊤, ◌==◌, ◌&&◌, ◌++◌, if◌then◌else◌, option_map}
-use Rattle.std.proofs.Common.{◌≡◌, ℕ, ◌+◌, ◌<◌, ◌≤◌, ◌⊎◌, inl, inr, Bool, true, false, cond, List, [], ◌∷◌, refl, sym, ◌∙◌, ap, subst, arith, Option, Some, None}
-use Rattle.std.proofs.lemmas.Bool.{false≢true}
+use Rattle.std.specs.Prelude.{⊤, ◌==◌, ◌++◌, if◌then◌else◌}
+use Rattle.std.proofs.Common.{◌≡◌, ℕ, ◌+◌, ◌≤◌, inl, inr, Bool, true, false, cond, List, [], ◌∷◌, refl, sym, ◌∙◌, ap, subst, arith, Option, Some, None}
 use Rattle.std.proofs.lemmas.Bool.Decides.{nat_tests}
+use Rattle.std.proofs.lemmas.Option.{same_Some, none-some}
 use Rattle.fk_base.specs.Path.{PathNames}
 use Rattle.fk_base.specs.declared.code.Code.TheVariants as code
-use Rattle.fk_tree.proofs.Order.{and_left, and_right, by_test}
+use Rattle.fk_tree.proofs.Order.{and_left, by_test}
 use Rattle.fk_tree.specs.Apply.{reply_of, reply_to}
 use Rattle.fk_tree.specs.declared.applied.Applied.{Applied}
 use Rattle.fk_tree.specs.declared.applied.Made.{Made}
@@ -18,14 +18,14 @@ use Rattle.fk_settle.specs.Transaction.{applied_as}
 use Rattle.fk_wire.specs.declared.message.Pushed.{Pushed}
 use Rattle.fk_wire.specs.declared.message.Tell.{Tell}
 use Rattle.fk_wire.specs.declared.message.Tell.TheVariants as tell
-use Rattle.fk_stand.specs.Messages.{done_tell, kept_tell, push_message_of}
+use Rattle.fk_stand.specs.Messages.{done_tell, push_message_of}
 use Rattle.fk_spec.specs.Plan.{Plan, Ask, Want, Unfit, Writes, Reads, asks_in, nth}
 use Rattle.fk_spec.specs.Start as start
-use Rattle.fk_spec.specs.Start.{pushed_of, request_from, request_in, request_of, written}
+use Rattle.fk_spec.specs.Start.{request_from, request_in, request_of, written}
 use Rattle.fk_spec.specs.Settling.{Outcome, Committed, Refused, Passed}
 use Rattle.fk_spec.specs.Stored.{committed_as}
 use Rattle.fk_spec.specs.Lanes.{Message, Done, Kept, inbox_of}
-use Rattle.fk_spec.specs.Client.{Client, Open, Plain, Expired, Reading, Result, Sent, acted, begin_with, client_in, client_of, close_if, flushed, is_close, is_open, is_unfit, local_result, next_asked, looked, looked_at, looked_for, registers, settle_with, with_told, without_ready}
+use Rattle.fk_spec.specs.Client.{Client, Plain, Reading, Sent, acted, client_in, client_of, close_if, is_close, is_open, is_unfit, local_result, next_asked, looked, looked_at, looked_for, registers, settle_with, with_told, without_ready}
 use Rattle.fk_spec.specs.Replies.{shown_reply}
 use Rattle.fk_spec.specs.Next.{IsHistory}
 use Rattle.fk_law.specs.Due.{IsDue}
@@ -34,13 +34,13 @@ use Rattle.fk_law.proofs.Sending.{committed_is_filled, committed_never_changes, 
 use Rattle.fk_law.proofs.Settled.{reached}
 use Rattle.fk_law_client.specs.Inboxes.{IsPublishedPush}
 use Rattle.fk_law_client.specs.Tracking.{AreTracked, IsSentSo, KeepsTrack, later}
-use Rattle.fk_law_client.proofs.Messages.{inbox_messages, none_some, some_same}
+use Rattle.fk_law_client.proofs.Messages.{inbox_messages}
 use Rattle.fk_law_client.proofs.Tracking.{first_true, sent_tracked}
 use Rattle.fk_law_watch.specs.FirstNumbers.{ReadsAreReads}
-use Rattle.fk_client.specs.Knowing.{all_known, client_known, told_known}
+use Rattle.fk_client.specs.Knowing.{all_known, client_known}
 use Rattle.fk_client.specs.Known.{by_outcome, kept_as, known, unanswered}
 use Rattle.fk_client.specs.Shown.{reply_told, shown_commit, shown_done}
-use Rattle.fk_client.specs.Sighting.{outcome_in, outcome_told}
+use Rattle.fk_client.specs.Sighting.{outcome_told}
 use Rattle.fk_client.specs.declared.unanswered.Outcome as client
 use Rattle.fk_client.specs.declared.unanswered.Outcome.TheVariants as outcome
 use Rattle.fk_client.specs.declared.unanswered.Unanswered.{Unanswered}
@@ -67,12 +67,12 @@ all_stay p e h asks (s ∷ ss) l i = (tells_stays p e h (nth asks s.command) s.o
 -- What a commit tells. -----------------------------------------------------------------------------------
 
 asks_write : (w : Want) (r : Request) (tx version : ℕ) (name : PathNames) (made : List Made) → request_in w ≡ Some r → shown_done tx name version made w ≡ shown_reply tx (reply_told name version made r)
-asks_write Unfit r tx version name made q = absurd (none_some r q)
-asks_write (Writes s) r tx version name made q = ap (λ z. shown_reply tx (reply_told name version made z)) (some_same s r q)
-asks_write (Reads a watch) r tx version name made q = absurd (none_some r q)
+asks_write Unfit r tx version name made q = absurd (none-some r q)
+asks_write (Writes s) r tx version name made q = ap (λ z. shown_reply tx (reply_told name version made z)) (same_Some s r q)
+asks_write (Reads a watch) r tx version name made q = absurd (none-some r q)
 
 commit_shows : (o : Option Ask) (r : Request) (tx version : ℕ) (name : PathNames) (made : List Made) → written o ≡ Some r → shown_commit tx name version made o ≡ shown_reply tx (reply_told name version made r)
-commit_shows None r tx version name made q = absurd (none_some r q)
+commit_shows None r tx version name made q = absurd (none-some r q)
 commit_shows (Some a) r tx version name made q = asks_write a.want r tx version name made q
 
 replies_to : (a : Applied) (r : Request) → reply_told a.name a.version a.made r ≡ reply_to a r
@@ -83,7 +83,7 @@ replies_to a (request.Close evict) = refl
 replies_to a (request.Multi parts) = refl
 
 pushed_one : (x y : start.Pushed) → Some x ≡ Some y → x ≡ y
-pushed_one x y e = some_same x y e
+pushed_one x y e = same_Some x y e
 
 -- a published push of the client's request k, with its message and what it was committed as
 record IsToldCommit (p : Plan) (c k tx : ℕ) (h : List Entry) (x : Pushed) : Type 0 where
@@ -194,25 +194,25 @@ done_is_true p c k tx h ms None x v l q g i = absurd i
 done_is_true p c k tx h ms (Some t) x v l q g i =
     let y = mapped (done_tell k tx) (push_message_of p tx h) t i in
     let z = told_commit p c k tx h y.0 l (first_true p c h (inbox_of p c h) ms (Done k tx) g (inbox_messages p c h l)) y.1 in
-    λ r e. subst (λ o. WouldTell p h (asks_in p c) k o x.sent) (some_same (outcome.Done tx y.0.name y.0.version y.0.made) r (ap (λ w. outcome_told (Some w)) y.2 ∙ e)) (done_would p c k tx h y.0 x v l q z)
+    λ r e. subst (λ o. WouldTell p h (asks_in p c) k o x.sent) (same_Some (outcome.Done tx y.0.name y.0.version y.0.made) r (ap (λ w. outcome_told (Some w)) y.2 ∙ e)) (done_would p c k tx h y.0 x v l q z)
 
 kept_is_true : (p : Plan) (c k : ℕ) (h : List Entry) (o : Outcome) (ms : List Message) (told : Option Tell) (x : Client Unanswered) → FirstTells p h (Kept k o ∷ ms) told → ToldIsTrue p c h told x k
 kept_is_true p c k h o ms None x i = absurd i
-kept_is_true p c k h (Committed tx) ms (Some t) x i = absurd (none_some t i)
-kept_is_true p c k h (Refused code place at) ms (Some t) x i = λ r e. subst (λ z. WouldTell p h (asks_in p c) k z x.sent) (some_same (outcome.Refused code at place) r (ap (λ w. outcome_told (Some w)) (some_same _ t i) ∙ e)) (would p h (asks_in p c) k (outcome.Refused code at place) x.sent (λ p h a. tt))
-kept_is_true p c k h (Passed None) ms (Some t) x i = absurd (none_some t i)
-kept_is_true p c k h (Passed (Some loss)) ms (Some t) x i = λ r e. subst (λ z. WouldTell p h (asks_in p c) k z x.sent) (some_same (outcome.Lost loss.path loss.own loss.found loss.moment) r (ap (λ w. outcome_told (Some w)) (some_same (tell.Lost k loss.path loss.own loss.found loss.moment) t i) ∙ e)) (would p h (asks_in p c) k (outcome.Lost loss.path loss.own loss.found loss.moment) x.sent (λ p h a. tt))
+kept_is_true p c k h (Committed tx) ms (Some t) x i = absurd (none-some t i)
+kept_is_true p c k h (Refused code place at) ms (Some t) x i = λ r e. subst (λ z. WouldTell p h (asks_in p c) k z x.sent) (same_Some (outcome.Refused code at place) r (ap (λ w. outcome_told (Some w)) (same_Some _ t i) ∙ e)) (would p h (asks_in p c) k (outcome.Refused code at place) x.sent (λ p h a. tt))
+kept_is_true p c k h (Passed None) ms (Some t) x i = absurd (none-some t i)
+kept_is_true p c k h (Passed (Some loss)) ms (Some t) x i = λ r e. subst (λ z. WouldTell p h (asks_in p c) k z x.sent) (same_Some (outcome.Lost loss.path loss.own loss.found loss.moment) r (ap (λ w. outcome_told (Some w)) (same_Some (tell.Lost k loss.path loss.own loss.found loss.moment) t i) ∙ e)) (would p h (asks_in p c) k (outcome.Lost loss.path loss.own loss.found loss.moment) x.sent (λ p h a. tt))
 
 pub acted_tell : (p : Plan) (c : ℕ) (h : List Entry) (told : Option Tell) (x : Client Unanswered) (o : Op) → ReadsAreReads p → IsHistory p h → client_known x ≡ client_of p c h → IsDue p h o → client_in o ≡ Some c → FirstTells p h (inbox_of p c h) told → AllTell p h (asks_in p c) x.sent
     → AllTell p h (asks_in p c) (acted by_outcome (told_sight p c h told) (outcome_told told) o x).sent
 acted_tell p c h told x (op.TakeDone d k tx) v l q i e r a =
-    let g = subst (λ z. inbox_of p z h ≡ Done k tx ∷ i.0) (some_same d c e) i.1 in
+    let g = subst (λ z. inbox_of p z h ≡ Done k tx ∷ i.0) (same_Some d c e) i.1 in
     settled_tell p h (asks_in p c) k (outcome_told told) x a (done_is_true p c k tx h i.0 told x v l q g (subst (λ ms. FirstTells p h ms told) g r))
 acted_tell p c h told x (op.TakeRefused d k) v l q i e r a =
-    let g = subst (λ z. inbox_of p z h ≡ Kept k i.0 ∷ i.1) (some_same d c e) i.2 in
+    let g = subst (λ z. inbox_of p z h ≡ Kept k i.0 ∷ i.1) (same_Some d c e) i.2 in
     settled_tell p h (asks_in p c) k (outcome_told told) x a (kept_is_true p c k h i.0 i.1 told x (subst (λ ms. FirstTells p h ms told) g r))
 acted_tell p c h told x (op.TakeLost d k) v l q i e r a =
-    let g = subst (λ z. inbox_of p z h ≡ Kept k (Passed i.0) ∷ i.1) (some_same d c e) i.2 in
+    let g = subst (λ z. inbox_of p z h ≡ Kept k (Passed i.0) ∷ i.1) (same_Some d c e) i.2 in
     settled_tell p h (asks_in p c) k (outcome_told told) x a (kept_is_true p c k h (Passed i.0) i.1 told x (subst (λ ms. FirstTells p h ms told) g r))
 acted_tell p c h told x (op.LookOk d j m) v l q i e r a = looked_tell p h (asks_in p c) x.reading x a
 acted_tell p c h told x (op.Local d j) v l q i e r a = more_tell p h (asks_in p c) x.sent (unanswered j 0 (kept_as (local_result (is_unfit (nth (asks_in p c) j)) (told_sight p c h told).seen))) a (local_tells p h (nth (asks_in p c) j) (is_unfit (nth (asks_in p c) j)) (told_sight p c h told).seen)

@@ -1,13 +1,13 @@
 -- The services after an operation of a client.
 use Rattle.std.specs.Prelude.{◌==◌, option_map}
-use Rattle.std.proofs.Common.{◌≡◌, ℕ, ◌+◌, Bool, true, false, cond, List, [], ◌∷◌, length, refl, sym, ◌∙◌, ap, subst, arith, Option, Some, None}
-use Rattle.std.proofs.lemmas.Bool.{false≢true}
+use Rattle.std.proofs.Common.{◌≡◌, ℕ, ◌+◌, true, false, List, ◌∷◌, refl, sym, ◌∙◌, ap, subst, arith, Some, None}
+use Rattle.std.proofs.lemmas.Bool.{false≢true, eqb-true}
 use Rattle.std.proofs.lemmas.Bool.Decides.{nat_tests}
+use Rattle.std.proofs.lemmas.Option.{same_Some, none-some}
 use Rattle.fk_base.specs.Faults.{one_more}
 use Rattle.fk_tree.specs.Ask.{path_asked}
 use Rattle.fk_tree.specs.Watch.{kind_asked}
 use Rattle.fk_tree.specs.declared.request.Request.{Request}
-use Rattle.fk_tree.specs.declared.request.Query.{Query}
 use Rattle.fk_print.specs.declared.entry.Entry.{Entry}
 use Rattle.fk_print.specs.declared.op.Op.{Op}
 use Rattle.fk_print.specs.declared.op.Op.TheVariants as op
@@ -18,25 +18,21 @@ use Rattle.fk_queue.specs.declared.lane.Lane.TheVariants as lane
 use Rattle.fk_store.specs.Meaning as table
 use Rattle.fk_user.specs.Meaning as user
 use Rattle.fk_watch.specs.Meaning as watches
-use Rattle.fk_watch.specs.Meaning.{Watches}
-use Rattle.fk_watch.specs.Registering.{registered}
 use Rattle.fk_wire.specs.SentText.{sent_text}
 use Rattle.fk_wire.specs.declared.version.Version.TheVariants as version
-use Rattle.fk_stand.specs.Messages.{push_message, note_message, sent_from}
+use Rattle.fk_stand.specs.Messages.{sent_from}
 use Rattle.fk_stand.specs.Posts.{letter_in, post_after, removes}
-use Rattle.fk_stand.specs.Standing.{Standing}
 use Rattle.fk_stand.specs.Stores.{store_after, watches_after}
 use Rattle.fk_stand.specs.Tables.{table_after}
-use Rattle.fk_spec.specs.Plan.{Plan, Ask, Want, Writes, Reads, asked, asks_in, is_client, nth}
+use Rattle.fk_spec.specs.Plan.{Plan, Ask, Writes, asked, asks_in, is_client, nth}
 use Rattle.fk_spec.specs.Start as start
-use Rattle.fk_spec.specs.Start.{request_from, sent_in, when, written}
+use Rattle.fk_spec.specs.Start.{when, written}
 use Rattle.fk_spec.specs.Shown.{seen_by}
-use Rattle.fk_spec.specs.Lanes.{posted_in, takes}
-use Rattle.fk_spec.specs.Client.{Client, client_in, client_of, next_asked}
+use Rattle.fk_spec.specs.Lanes.{takes}
+use Rattle.fk_spec.specs.Client.{Client, client_in, client_of}
 use Rattle.fk_spec.specs.Watches.{watch_asked}
 use Rattle.fk_spec.specs.Next.{IsHistory}
 use Rattle.fk_law_client.specs.Operations.{OperationSays}
-use Rattle.fk_law_client.proofs.Messages.{none_some, same_number, some_same}
 use Rattle.fk_law_client.proofs.Operating.{client_operations_say}
 use Rattle.fk_client.specs.Knowing.{client_known}
 use Rattle.fk_client.specs.Meaning.{Meaning, next_ask}
@@ -44,31 +40,17 @@ use Rattle.fk_client.specs.Services.{message_of, post_by, registered_asked, regi
 use Rattle.fk_client.specs.declared.unanswered.Unanswered.{Unanswered}
 use Rattle.fk_agree.specs.Letters.{LeavesLane}
 use Rattle.fk_agree.specs.Records.{LeavesRecords}
-use Rattle.fk_agree.specs.Services.{LeavesServices}
 use Rattle.fk_agree.specs.Stored.{LeavesStore}
 use Rattle.fk_agree.specs.Watched.{LeavesWatches}
 use Rattle.fk_agree.proofs.Finishing.{pong_is_written}
-use Rattle.fk_agree.proofs.Granting.{records_stay}
 use Rattle.fk_agree.proofs.Posting.{head_is_popped, letter_is_pushed}
-use Rattle.fk_agree.proofs.Putting.{store_stays}
-use Rattle.fk_agree.proofs.Serving.{LeavesPost, other_number, post_left, post_stands, store_stands, table_stands, watches_stand}
-use Rattle.fk_agree.proofs.Watching.{registration_is_written, watches_stay}
+use Rattle.fk_agree.proofs.Serving.{LeavesPost, other_number, post_stands, store_stands, table_stands, watches_stand}
+use Rattle.fk_agree.proofs.Watching.{registration_is_written}
+use Rattle.fk_agree.proofs.Held.{left_table, left_post, left_store, left_watches}
 use Rattle.fk_agree_client.specs.Serving.{ClientFaultIsWritten, ClientIsWritten, IsFailed}
-use Rattle.fk_agree_client.specs.Standing.{IsClient, standing}
+use Rattle.fk_agree_client.specs.Standing.{standing}
 
 -- Where a line leaves a service. -------------------------------------------------------------------------
-
-left_table : (p : Plan) (faults : ℕ) (e : Entry) (h : List Entry) (o : Op) → e.op ≡ o → LeavesRecords o → table_after p h faults ≡ table_after p (e ∷ h) faults
-left_table p faults e h o g k = sym (records_stay p faults e h (subst LeavesRecords (sym g) k))
-
-left_post : (p : Plan) (faults : ℕ) (e : Entry) (h : List Entry) (o : Op) → e.op ≡ o → LeavesPost o → post_after p h faults ≡ post_after p (e ∷ h) faults
-left_post p faults e h o g k = sym (post_left p faults e h o g k)
-
-left_store : (p : Plan) (faults : ℕ) (e : Entry) (h : List Entry) (o : Op) → IsHistory p (e ∷ h) → e.op ≡ o → LeavesStore o → store_after p h faults ≡ store_after p (e ∷ h) faults
-left_store p faults e h o l g k = sym (store_stays p faults e h l (subst LeavesStore (sym g) k))
-
-left_watches : (p : Plan) (faults : ℕ) (e : Entry) (h : List Entry) (o : Op) → e.op ≡ o → LeavesWatches o → watches_after p h faults ≡ watches_after p (e ∷ h) faults
-left_watches p faults e h o g k = sym (watches_stay p faults e h (subst LeavesWatches (sym g) k))
 
 -- The table. ---------------------------------------------------------------------------------------------
 
@@ -94,13 +76,13 @@ table_case p faults e h (op.LookFault d j) c g i = left_table p faults e h (op.L
 table_case p faults e h (op.SendFault d j) c g i = left_table p faults e h (op.SendFault d j) g tt
 table_case p faults e h (op.ReadFault d j) c g i = left_table p faults e h (op.ReadFault d j) g tt
 table_case p faults e h (op.WatchFault d j) c g i = left_table p faults e h (op.WatchFault d j) g tt
-table_case p faults e h o c g i = absurd (none_some c i)
+table_case p faults e h o c g i = absurd (none-some c i)
 
 -- The user storage. --------------------------------------------------------------------------------------
 
 store_spared : (o : Op) (c : ℕ) → client_in o ≡ Some c → LeavesStore o
-store_spared (op.PutOk n t path) c i = absurd (none_some c i)
-store_spared (op.PublishOk n t) c i = absurd (none_some c i)
+store_spared (op.PutOk n t path) c i = absurd (none-some c i)
+store_spared (op.PublishOk n t) c i = absurd (none-some c i)
 store_spared o c i = tt
 
 store_by : (p : Plan) (h : List Entry) (faults : ℕ) (o : Op) → user_by o (store_after p h faults) ≡ store_after p h faults
@@ -147,7 +129,7 @@ taken_elsewhere p c h o (lane.Inbox d) t e = record { none = inbox_none o t; kep
     inbox_none o t = refl
 
     apart : (s : ℕ) → (s == c) ≡ true → (s == d) ≡ false
-    apart s t = let a : s ≡ c = same_number s c t in rw a (other_number c d e)
+    apart s t = let a : s ≡ c = eqb-true s c t in rw a (other_number c d e)
 
     inbox_kept : (o : Op) → takes c o ≡ true → removes (lane.Inbox d) h o ≡ false
     inbox_kept (op.TakeDone s k n) t = apart s t
@@ -209,14 +191,14 @@ takes_case : (p : Plan) (c d faults : ℕ) (e : Entry) (h : List Entry) (o : Op)
 takes_case p c d faults e h o g k s t = ap (λ z. post.popped (lane.Inbox z) (post_after p h faults)) s ∙ taken_post p c faults e h o g k t
 
 post_case : (p : Plan) (c faults : ℕ) (e : Entry) (h : List Entry) (x : Client Unanswered) (o : Op) → e.op ≡ o → client_in o ≡ Some c → is_client p c ≡ true → client_known x ≡ client_of p c h → OperationSays p c h o → post_by (standing p c h x) o (post_after p h faults) ≡ post_after p (e ∷ h) faults
-post_case p c faults e h x (op.TakeDone d k n) g i a y s = let z = some_same d c i in takes_case p c d faults e h (op.TakeDone d k n) g a z (same_self d c z)
-post_case p c faults e h x (op.TakeEvicted d k n) g i a y s = let z = some_same d c i in takes_case p c d faults e h (op.TakeEvicted d k n) g a z (same_self d c z)
-post_case p c faults e h x (op.TakeRefused d k) g i a y s = let z = some_same d c i in takes_case p c d faults e h (op.TakeRefused d k) g a z (same_self d c z)
-post_case p c faults e h x (op.TakeLost d k) g i a y s = let z = some_same d c i in takes_case p c d faults e h (op.TakeLost d k) g a z (same_self d c z)
-post_case p c faults e h x (op.TakeWatch d n) g i a y s = let z = some_same d c i in takes_case p c d faults e h (op.TakeWatch d n) g a z (same_self d c z)
-post_case p c faults e h x (op.TakePing d n) g i a y s = let z = some_same d c i in takes_case p c d faults e h (op.TakePing d n) g a z (same_self d c z)
+post_case p c faults e h x (op.TakeDone d k n) g i a y s = let z = same_Some d c i in takes_case p c d faults e h (op.TakeDone d k n) g a z (same_self d c z)
+post_case p c faults e h x (op.TakeEvicted d k n) g i a y s = let z = same_Some d c i in takes_case p c d faults e h (op.TakeEvicted d k n) g a z (same_self d c z)
+post_case p c faults e h x (op.TakeRefused d k) g i a y s = let z = same_Some d c i in takes_case p c d faults e h (op.TakeRefused d k) g a z (same_self d c z)
+post_case p c faults e h x (op.TakeLost d k) g i a y s = let z = same_Some d c i in takes_case p c d faults e h (op.TakeLost d k) g a z (same_self d c z)
+post_case p c faults e h x (op.TakeWatch d n) g i a y s = let z = same_Some d c i in takes_case p c d faults e h (op.TakeWatch d n) g a z (same_self d c z)
+post_case p c faults e h x (op.TakePing d n) g i a y s = let z = same_Some d c i in takes_case p c d faults e h (op.TakePing d n) g a z (same_self d c z)
 post_case p c faults e h x (op.Send d j k) g i a y s =
-    let z = some_same d c i in
+    let z = same_Some d c i in
     ap (λ w. sent_asked w (seen_by c h) (next_ask (standing p c h x)) (post_after p h faults)) z
     ∙ sends_case p c j k faults e h x (g ∙ ap (λ w. op.Send w j k) z) a y (subst (λ w. OperationSays p c h (op.Send w j k)) z s)
 post_case p c faults e h x (op.Pong d n) g i a y s = left_post p faults e h (op.Pong d n) g tt
@@ -233,7 +215,7 @@ post_case p c faults e h x (op.LookFault d j) g i a y s = left_post p faults e h
 post_case p c faults e h x (op.SendFault d j) g i a y s = left_post p faults e h (op.SendFault d j) g tt
 post_case p c faults e h x (op.ReadFault d j) g i a y s = left_post p faults e h (op.ReadFault d j) g tt
 post_case p c faults e h x (op.WatchFault d j) g i a y s = left_post p faults e h (op.WatchFault d j) g tt
-post_case p c faults e h x o g i a y s = absurd (none_some c i)
+post_case p c faults e h x o g i a y s = absurd (none-some c i)
 
 -- The table of watches. ----------------------------------------------------------------------------------
 
@@ -251,18 +233,18 @@ registers_case p c j id faults e h x l g y s =
 
 watches_spared : (o : Op) (c : ℕ) → client_in o ≡ Some c → ((d j n : ℕ) → o ≡ op.WatchSet d j n → ⊥) → LeavesWatches o
 watches_spared (op.WatchSet d j n) c i x = absurd (x d j n refl)
-watches_spared (op.SweepOk n t k) c i x = absurd (none_some c i)
-watches_spared (op.Told n t) c i x = absurd (none_some c i)
+watches_spared (op.SweepOk n t k) c i x = absurd (none-some c i)
+watches_spared (op.Told n t) c i x = absurd (none-some c i)
 watches_spared o c i x = tt
 
 watches_case : (p : Plan) (c faults : ℕ) (e : Entry) (h : List Entry) (x : Client Unanswered) (o : Op) → IsHistory p (e ∷ h) → e.op ≡ o → client_in o ≡ Some c → client_known x ≡ client_of p c h → OperationSays p c h o → watches_by (standing p c h x) o (watches_after p h faults) ≡ watches_after p (e ∷ h) (watch_faults o faults)
 watches_case p c faults e h x (op.WatchSet d j id) l g i y s =
-    let z = some_same d c i in
+    let z = same_Some d c i in
     ap (λ w. registered_asked w id (next_ask (standing p c h x)) (watches_after p h faults)) z
     ∙ registers_case p c j id faults e h x l (g ∙ ap (λ w. op.WatchSet w j id) z) y (subst (λ w. OperationSays p c h (op.WatchSet w j id)) z s)
 watches_case p c faults e h x (op.WatchFault d j) l g i y s = left_watches p (one_more faults) e h (op.WatchFault d j) g tt
-watches_case p c faults e h x (op.SweepOk n t k) l g i y s = absurd (none_some c i)
-watches_case p c faults e h x (op.Told n t) l g i y s = absurd (none_some c i)
+watches_case p c faults e h x (op.SweepOk n t k) l g i y s = absurd (none-some c i)
+watches_case p c faults e h x (op.Told n t) l g i y s = absurd (none-some c i)
 watches_case p c faults e h x o l g i y s = left_watches p faults e h o g tt
 
 -- All of them. -------------------------------------------------------------------------------------------

@@ -1,15 +1,12 @@
 -- What a client makes of services that stand as a history says.
 use Rattle.std.specs.Prelude.{◌≡◌, ℕ, true, List, [], ◌∷◌, Option, Some}
 use Rattle.fk_print.specs.declared.entry.Entry.{Entry}
-use Rattle.fk_print.specs.declared.line.Line.{Line}
-use Rattle.fk_print.specs.declared.op.Op.{Op}
 use Rattle.fk_queue.specs.Meaning as post
 use Rattle.fk_store.specs.Meaning as table
 use Rattle.fk_user.specs.Meaning as user
 use Rattle.fk_watch.specs.Meaning as watches
 use Rattle.fk_watch.specs.Meaning.{Watches}
 use Rattle.fk_wire.specs.declared.message.Tell.{Tell}
-use Rattle.fk_stand.specs.Posts.{post_after}
 use Rattle.fk_stand.specs.Standing.{Standing}
 use Rattle.fk_spec.specs.Plan.{Plan, asks_in, is_client}
 use Rattle.fk_spec.specs.Lanes.{inbox_of}

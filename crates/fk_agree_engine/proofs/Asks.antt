@@ -3,6 +3,7 @@ use Rattle.std.specs.Prelude.{◌==◌, ◌&&◌, ◌||◌, nat_le, not, if◌th
 use Rattle.std.proofs.Common.{◌≡◌, ℕ, zero, suc, ◌+◌, ◌≤◌, ◌++◌, Bool, true, false, List, [], ◌∷◌, length, refl, sym, ◌∙◌, ap, subst, arith, Option, Some, None}
 use Rattle.std.specs.Ordering.{is_lt, nat_cmp}
 use Rattle.std.proofs.lemmas.Bool.Decides.{nat_tests}
+use Rattle.std.proofs.lemmas.Option.{none-some}
 use Rattle.fk_tree.specs.Sorted.{is_below}
 use Rattle.fk_tree.proofs.Order.{and_left, and_right}
 use Rattle.fk_print.specs.declared.entry.Entry.{Entry}
@@ -22,7 +23,6 @@ use Rattle.fk_spec.specs.Schedule as schedule
 use Rattle.fk_spec.specs.Schedule.{deliver_where, is_idle, lead_where, step_of_first, tell_where}
 use Rattle.fk_user.specs.Ids.{has_id, ids_rise}
 use Rattle.fk_law.proofs.Starting.{place_bound}
-use Rattle.fk_law_client.proofs.Messages.{none_some}
 use Rattle.fk_client.specs.Idle as client_idle
 use Rattle.fk_client.specs.Meaning as client
 use Rattle.fk_follow.specs.Fit.{IsReadAt}
@@ -42,6 +42,7 @@ use Rattle.fk_engine.specs.Machines.{Beat, Follower, Leader, Teller}
 use Rattle.fk_engine.specs.Parts.{Meaning}
 use Rattle.fk_engine.specs.Reads.{nothing_read}
 use Rattle.fk_engine.proofs.Listing.{one_list}
+use Rattle.fk_agree.proofs.Sweeping.{UpTo}
 use Rattle.fk_agree_engine.specs.Asking.{DrainIsFit, FlightIsTheRules, NextOfDrainIsTheRules, ReadyIsFit, ReadyIsTheRules}
 use Rattle.fk_agree_engine.specs.World.{IsWorld, StandsAs}
 use Rattle.fk_agree_engine.proofs.Plain.{is_in_flight, leader_head_is, session_head_is, watch_head_is}
@@ -50,16 +51,11 @@ use Rattle.fk_agree_engine.proofs.Turning.{client_there}
 
 -- The functions in flight. -------------------------------------------------------------------------------
 
--- each of these numbers is at most this
-abbrev AreUpTo : ℕ → List ℕ → Type 0
-AreUpTo k [] = Unit {0}
-AreUpTo k (n ∷ ns) = (n ≤ k) × AreUpTo k ns
-
-up_to_more : (k : ℕ) (ns : List ℕ) → AreUpTo k ns → AreUpTo (suc k) ns
+up_to_more : (k : ℕ) (ns : List ℕ) → UpTo k ns → UpTo (suc k) ns
 up_to_more k [] i = tt
 up_to_more k (n ∷ ns) i = let a = i.0 in (omega (arith, a), up_to_more k ns i.1)
 
-up_to_end : (k : ℕ) (ns : List ℕ) → AreUpTo k ns → AreUpTo (suc k) (ns ++ suc k ∷ [])
+up_to_end : (k : ℕ) (ns : List ℕ) → UpTo k ns → UpTo (suc k) (ns ++ suc k ∷ [])
 up_to_end k [] i = (omega arith, tt)
 up_to_end k (n ∷ ns) i = let a = i.0 in (omega (arith, a), up_to_end k ns i.1)
 
@@ -74,7 +70,7 @@ below_end m k (n ∷ ns) b i =
     let rest : is_below nat_cmp m (ns ++ k ∷ []) ≡ true = below_end m k ns b (and_right (is_lt (nat_cmp m n)) (is_below nat_cmp m ns) i) in
     rw first rest
 
-rises_end : (k : ℕ) (ns : List ℕ) → AreUpTo k ns → ids_rise ns ≡ true → ids_rise (ns ++ suc k ∷ []) ≡ true
+rises_end : (k : ℕ) (ns : List ℕ) → UpTo k ns → ids_rise ns ≡ true → ids_rise (ns ++ suc k ∷ []) ≡ true
 rises_end k [] i r = refl
 rises_end k (n ∷ ns) i r =
     let low : n ≤ k = i.0 in
@@ -82,11 +78,11 @@ rises_end k (n ∷ ns) i r =
     let rest : ids_rise (ns ++ suc k ∷ []) ≡ true = rises_end k ns i.1 (and_right (is_below nat_cmp n ns) (ids_rise ns) r) in
     rw first rest
 
-are_up_to : (p : Plan) (n : ℕ) (h : List Entry) → AreUpTo n (in_flight_to p n h)
+are_up_to : (p : Plan) (n : ℕ) (h : List Entry) → UpTo n (in_flight_to p n h)
 are_up_to p zero h = tt
 are_up_to p (suc n) h = by_place (is_absent (place_of p (suc n) h)) (are_up_to p n h)
   where
-    by_place : (b : Bool) → AreUpTo n (in_flight_to p n h) → AreUpTo (suc n) (if b then in_flight_to p n h else in_flight_to p n h ++ suc n ∷ [])
+    by_place : (b : Bool) → UpTo n (in_flight_to p n h) → UpTo (suc n) (if b then in_flight_to p n h else in_flight_to p n h ++ suc n ∷ [])
     by_place true i = up_to_more n (in_flight_to p n h) i
     by_place false i = up_to_end n (in_flight_to p n h) i
 
@@ -190,7 +186,7 @@ next_of_drain_is_the_rules p h w ns x a =
 -- What would make an operation. --------------------------------------------------------------------------
 
 busy : (n : ℕ) (o : Op) → actor o ≡ Some n → is_idle o ≡ false
-busy n op.Idle e = absurd (none_some n e)
+busy n op.Idle e = absurd (none-some n e)
 busy n o e = refl
 
 failed_idle : (o : Op) → is_idle (failed_op o) ≡ is_idle o

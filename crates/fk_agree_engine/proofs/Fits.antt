@@ -1,8 +1,8 @@
 -- What an event needs of an engine holds; a new engine stands; a deployment's plan is within limits.
-use Rattle.std.specs.Prelude.{⊤, ◌==◌, ◌-◌, ◌^◌, zero, nat_le, if◌then◌else◌, is_some}
-use Rattle.std.proofs.Common.{◌≡◌, ℕ, suc, ◌+◌, ◌<◌, ◌≤◌, Bool, true, false, cond, List, [], ◌∷◌, length, refl, sym, ◌∙◌, ap, subst, arith, Option, Some, None}
+use Rattle.std.specs.Prelude.{◌==◌, ◌^◌, if◌then◌else◌}
+use Rattle.std.proofs.Common.{◌≡◌, ℕ, ◌+◌, ◌<◌, ◌≤◌, Bool, true, false, List, [], ◌∷◌, length, refl, sym, ◌∙◌, ap, subst, arith, Option, Some, None}
+use Rattle.std.proofs.lemmas.Option.{none-some}
 use Rattle.fk_print.specs.declared.entry.Entry.{Entry}
-use Rattle.fk_print.specs.declared.event.Event.{Event}
 use Rattle.fk_print.specs.declared.event.Event.TheVariants as event
 use Rattle.fk_print.specs.declared.op.Op.{Op}
 use Rattle.fk_print.specs.declared.op.Op.TheVariants as op
@@ -15,20 +15,16 @@ use Rattle.fk_wire.specs.NoteText.{IsNoteText}
 use Rattle.fk_wire.specs.PushedText.{IsPushedText}
 use Rattle.fk_wire.specs.SentText.{IsSentText}
 use Rattle.fk_wire.specs.declared.version.Version.TheVariants as version
-use Rattle.fk_script.specs.PrintLaws.{IsMeant}
-use Rattle.fk_script.specs.declared.deployment.Deployment.{Deployment}
 use Rattle.fk_stand.specs.Posts.{lane_after}
 use Rattle.fk_spec.specs.Plan.{Plan, is_client, nth, plan_of}
-use Rattle.fk_spec.specs.Start.{Origin, Evicted, clock_of, origin_here, origin_of, seen_from, seen_with, sent_in, starts_of, when}
+use Rattle.fk_spec.specs.Start.{Origin, Evicted, origin_here, origin_of, seen_from, seen_with, sent_in, when}
 use Rattle.fk_spec.specs.Start as start
 use Rattle.fk_spec.specs.Shown.{seen_by}
-use Rattle.fk_spec.specs.Lanes.{leader_head, session_head, watch_head}
 use Rattle.fk_spec.specs.Next.{IsHistory}
 use Rattle.fk_limits.proofs.Deployments.{asks_are_limited, requests_are_readable}
 use Rattle.fk_law_watch.specs.FirstNumbers.{ReadsAreReads}
 use Rattle.fk_law_watch.proofs.Counting.{pushes_are_bounded, starts_are_bounded}
 use Rattle.fk_law_watch.proofs.FirstNumbers.{deployments_read_by_reads}
-use Rattle.fk_law_client.proofs.Messages.{none_some}
 use Rattle.fk_law_client.proofs.Pushed.{mark_pushed}
 use Rattle.fk_law_client.proofs.Seen.{seen_published}
 use Rattle.fk_client.specs.Meaning as client
@@ -55,7 +51,7 @@ use Rattle.fk_engine.specs.Machines as machine
 use Rattle.fk_engine.specs.Machines.{Follower, Leader, Teller, Beat}
 use Rattle.fk_engine.specs.Parts.{Meaning}
 use Rattle.fk_engine.specs.Stepping.{FitsStepOf}
-use Rattle.fk_agree_engine.specs.Playing.{CanPlay, EventIsFit}
+use Rattle.fk_agree_engine.specs.Playing.{EventIsFit}
 use Rattle.fk_agree_engine.specs.Starting.{DeploymentsAreWithinLimits, NewEngineStands}
 use Rattle.fk_agree_engine.specs.World.{IsWithinLimits, IsWorld, StandsAs}
 
@@ -141,7 +137,7 @@ new_engine_stands p ms a b = record {
   functions = record { started = refl; running = λ n. refl };
   clients = record { count = a; each = λ c m q. subst (IsClient p c []) (sym (b c m q)) (new_client_stands p c) };
   services = subst (λ n. Standing p [] (new_table (length p.asks)) (new_post n) new_store new_watches) (sym a) (new_services_stand p);
-  readable = record { pushes = λ t x q. absurd (none_some x q); notes = λ w x q. absurd (none_some x q); tells = λ c. tt };
+  readable = record { pushes = λ t x q. absurd (none-some x q); notes = λ w x q. absurd (none-some x q); tells = λ c. tt };
 }
 
 -- A deployment. ------------------------------------------------------------------------------------------

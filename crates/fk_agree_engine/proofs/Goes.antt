@@ -1,28 +1,20 @@
 -- An engine goes on from where it stands to where the longer history says.
-use Rattle.std.specs.Prelude.{⊤, ◌==◌, ◌<◌, ◌-◌, ◌^◌, if◌then◌else◌, is_some}
 use Rattle.std.proofs.lemmas.Bool.{false≢true}
-use Rattle.std.proofs.Common.{◌≡◌, ◌≢◌, ℕ, ◌+◌, Bool, true, false, cond, List, [], ◌∷◌, length, refl, sym, ◌∙◌, ap, subst, arith, Option, Some, None}
+use Rattle.std.proofs.Common.{◌≡◌, ℕ, List, [], ◌∷◌, refl, sym, ◌∙◌, ap, subst, Option, Some, None}
 use Rattle.fk_print.specs.declared.entry.Entry.{Entry}
 use Rattle.fk_print.specs.declared.event.Event.{Event}
 use Rattle.fk_print.specs.declared.event.Event.TheVariants as event
-use Rattle.fk_print.specs.declared.op.Op.{Op}
 use Rattle.fk_print.specs.declared.op.Op.TheVariants as op
-use Rattle.fk_queue.specs.Meaning as post
-use Rattle.fk_store.specs.Meaning as table
-use Rattle.fk_user.specs.Meaning as user
-use Rattle.fk_watch.specs.Meaning as watches
 use Rattle.fk_watch.specs.Services.{Services}
 use Rattle.fk_stand.specs.Standing.{Standing}
 use Rattle.fk_spec.specs.Plan.{Plan}
-use Rattle.fk_spec.specs.Start.{clock_of}
 use Rattle.fk_spec.specs.Function.{Absent, Beating, Following, Leading, Place, Telling, actor, fault_op, function_op, is_absent, place_of}
 use Rattle.fk_spec.specs.Next.{IsHistory, next_entry, next_lines}
 use Rattle.fk_engine.specs.declared.times.Times.{Times}
 use Rattle.fk_engine.specs.Engine.{made}
-use Rattle.fk_engine.specs.Events.{after_event, as_it_is, stepped}
+use Rattle.fk_engine.specs.Events.{after_event, as_it_is}
 use Rattle.fk_engine.specs.Fit.{IsReadAt}
-use Rattle.fk_engine.specs.Flights as functions
-use Rattle.fk_engine.specs.Flights.{moved, unless_ended}
+use Rattle.fk_engine.specs.Flights.{unless_ended}
 use Rattle.fk_agree.specs.Sending.{Sends}
 use Rattle.fk_engine.specs.Machines as machine
 use Rattle.fk_engine.specs.Machines.{Follower, Leader, Teller, Beat, after_step, lines_by, services_after, step_op}
@@ -34,11 +26,11 @@ use Rattle.fk_engine.specs.Stepping as stepping
 use Rattle.fk_engine.specs.Stepping.{IsReadBy, function_lines, function_moved, function_services}
 use Rattle.fk_agree_engine.specs.Playing.{CanPlay, EngineGoesOn, EventIsNext}
 use Rattle.fk_agree_engine.specs.World.{IsWorld, StandsAs}
-use Rattle.fk_agree_engine.proofs.Moves.{move_world, no_client}
+use Rattle.fk_agree_engine.proofs.Moves.{move_world}
 use Rattle.fk_agree_engine.proofs.Plain.{beat_goes_on, beat_next, clock_goes_on, clock_next, crash_goes_on, crash_next, deliver_goes_on, deliver_next, idle_goes_on, is_in_flight, lead_goes_on, lead_next, longer, tell_goes_on, tell_next}
 use Rattle.fk_agree_engine.proofs.Readable.{silent_sends}
 use Rattle.fk_agree_engine.proofs.Steps.{Faults, Steps, beat_faults, beat_steps, follower_faults, follower_steps, leader_faults, leader_steps, teller_faults, teller_steps, times_of}
-use Rattle.fk_agree_engine.proofs.Turns.{calm_world, fail_goes_on, fail_next, turn_goes_on, turn_next}
+use Rattle.fk_agree_engine.proofs.Turns.{calm_world, fail_goes_on, fail_next, turn_goes_on, turn_next, ruled}
 
 -- The times. ---------------------------------------------------------------------------------------------
 
@@ -64,10 +56,6 @@ faults p n h s r (Beat m) a i = beat_faults p n h s r m a i
 
 abbrev step_entry : Event → Services → Times → Read → Option machine.Meaning → Entry
 step_entry v s t r o = record { event = v; op = stepping.function_op s t r o; lines = function_lines s t r o }
-
--- an entry of this event, with the lines that the rules say
-abbrev ruled : Plan → List Entry → Event → Op → Entry
-ruled p h v o = record { event = v; op = o; lines = next_lines p h o }
 
 step_is : (p : Plan) (n : ℕ) (h : List Entry) (s : Services) (r : Read) (o : Option machine.Meaning) → IsHistory p h → Standing p h s.table s.post s.user s.watches → StandsAs p n h o → IsReadBy s r o → step_entry (event.Step n) s (times_of p h) r o ≡ next_entry p h (event.Step n)
 step_is p n h s r None l a i d = ap (λ x. ruled p h (event.Step n) (function_op p h n x)) (sym i)

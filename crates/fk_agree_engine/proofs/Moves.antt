@@ -1,37 +1,27 @@
 -- A function's operation, and its fault.
-use Rattle.std.specs.Prelude.{⊤, ◌==◌, if◌then◌else◌}
-use Rattle.std.proofs.Common.{◌≡◌, ◌≢◌, ℕ, ◌+◌, ◌⊎◌, inl, inr, Bool, true, false, cond, List, [], ◌∷◌, length, refl, sym, ◌∙◌, ap, subst, arith, Option, Some, None}
-use Rattle.std.proofs.lemmas.Bool.Decides.{nat_tests}
+use Rattle.std.specs.Prelude.{⊤}
+use Rattle.std.proofs.Common.{◌≡◌, ℕ, List, [], ◌∷◌, sym, ◌∙◌, subst, arith, Option, Some}
 use Rattle.fk_print.specs.declared.entry.Entry.{Entry}
-use Rattle.fk_print.specs.declared.event.Event.{Event}
-use Rattle.fk_print.specs.declared.line.Line.{Line}
 use Rattle.fk_print.specs.declared.op.Op.{Op}
 use Rattle.fk_print.specs.declared.op.Op.TheVariants as op
 use Rattle.fk_wire.specs.Limits.{IsNumber}
 use Rattle.fk_watch.specs.Services.{Services}
 use Rattle.fk_stand.specs.Standing.{Standing}
 use Rattle.fk_spec.specs.Plan.{Plan}
-use Rattle.fk_spec.specs.Start.{clock_after, clock_of, started_in}
-use Rattle.fk_spec.specs.Client.{client_in}
-use Rattle.fk_spec.specs.Function.{Absent, actor, place_of}
+use Rattle.fk_spec.specs.Start.{clock_after, clock_of}
+use Rattle.fk_spec.specs.Function.{actor}
 use Rattle.fk_spec.specs.Next.{IsHistory, next_lines}
-use Rattle.fk_law_client.proofs.Messages.{none_some, some_same}
 use Rattle.fk_agree.specs.Sending.{Sends}
 use Rattle.fk_engine.specs.Flights.{with_running}
 use Rattle.fk_engine.specs.Machines as machine
 use Rattle.fk_engine.specs.Parts.{Meaning}
+use Rattle.fk_law.proofs.Starting.{no_start, no_client}
 use Rattle.fk_agree_engine.specs.World.{IsWorld, StandsAs}
 use Rattle.fk_agree_engine.proofs.Flights.{functions_move}
-use Rattle.fk_agree_engine.proofs.Readable.{IsSilent, still_readable}
+use Rattle.fk_agree_engine.proofs.Readable.{still_readable}
 use Rattle.fk_agree_engine.proofs.Turning.{clients_stay}
 
 -- What a function's operation leaves. --------------------------------------------------------------------
-
-no_start : (o : Op) (n : ℕ) → actor o ≡ Some n → started_in o ≡ None
-no_start o n e = grind arith
-
-pub no_client : (o : Op) (n : ℕ) → actor o ≡ Some n → client_in o ≡ None
-no_client o n e = grind arith
 
 no_clock : (o : Op) (n k : ℕ) → actor o ≡ Some n → clock_after o k ≡ k
 no_clock o n k e = grind arith

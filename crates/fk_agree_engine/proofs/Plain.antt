@@ -1,15 +1,13 @@
 -- Events that use no service: the clock, a crash, a heartbeat, and deliveries.
 use Rattle.std.specs.Prelude.{◌==◌, if◌then◌else◌, max}
-use Rattle.std.proofs.Common.{◌≡◌, ◌≢◌, ℕ, ◌+◌, ◌<◌, Bool, true, false, cond, List, [], ◌∷◌, length, refl, sym, ◌∙◌, ap, subst, arith, Option, Some, None}
-use Rattle.std.proofs.lemmas.Bool.{false≢true}
-use Rattle.std.proofs.lemmas.Bool.Decides.{nat_tests}
+use Rattle.std.proofs.Common.{◌≡◌, ℕ, ◌+◌, Bool, true, false, List, [], ◌∷◌, length, refl, sym, ◌∙◌, ap, subst, arith, Option, Some, None}
+use Rattle.std.proofs.lemmas.Bool.{eqb-true}
 use Rattle.fk_print.specs.declared.entry.Entry.{Entry}
 use Rattle.fk_print.specs.declared.event.Event.{Event}
 use Rattle.fk_print.specs.declared.event.Event.TheVariants as event
 use Rattle.fk_print.specs.declared.op.Op.{Op}
 use Rattle.fk_print.specs.declared.op.Op.TheVariants as op
 use Rattle.fk_queue.specs.Letters.{first_number, head_bytes, head_number}
-use Rattle.fk_queue.specs.declared.lane.Lane.{Lane}
 use Rattle.fk_queue.specs.declared.lane.Lane.TheVariants as lane
 use Rattle.fk_queue.specs.declared.letter.Letter.{Letter}
 use Rattle.fk_wire.specs.Limits.{IsNumber}
@@ -24,17 +22,16 @@ use Rattle.fk_lead.specs.Meaning as leader
 use Rattle.fk_watch.specs.Beating as beat
 use Rattle.fk_watch.specs.Telling as teller
 use Rattle.fk_stand.specs.Posts.{lane_after}
-use Rattle.fk_stand.specs.Standing.{Standing}
 use Rattle.fk_spec.specs.Plan.{Plan, is_client}
-use Rattle.fk_spec.specs.Start.{Start, Follows, Leads, Notifies, Probes, clock_of, request_of, started_in, starts_of}
+use Rattle.fk_spec.specs.Start.{Follows, Leads, Notifies, Probes, clock_of, request_of, starts_of}
 use Rattle.fk_spec.specs.Lanes.{leader_head, session_head, watch_head}
 use Rattle.fk_spec.specs.Client.{client_in}
 use Rattle.fk_spec.specs.Follower as rules
 use Rattle.fk_spec.specs.Follower.{next_for}
 use Rattle.fk_tree.specs.declared.request.Request.{Request}
-use Rattle.fk_spec.specs.Function.{Absent, follow_on, Beating, Following, Leading, Place, Telling, actor, is_absent, moved, place_of}
+use Rattle.fk_spec.specs.Function.{Absent, follow_on, Beating, Following, Leading, Place, Telling, is_absent, moved, place_of}
 use Rattle.fk_spec.specs.Next as next
-use Rattle.fk_spec.specs.Next.{IsHistory, names_client, next_entry}
+use Rattle.fk_spec.specs.Next.{IsHistory, next_entry}
 use Rattle.fk_law.proofs.Starting.{own_operation_moves_it}
 use Rattle.fk_agree.specs.Records.{LeavesRecords}
 use Rattle.fk_agree.specs.Services.{LeavesServices}
@@ -56,7 +53,7 @@ use Rattle.fk_agree_lead.proofs.Starting.{leader_starts}
 use Rattle.fk_agree_notify.proofs.Beating.{beat_starts}
 use Rattle.fk_agree_notify.proofs.Telling.{teller_starts}
 use Rattle.fk_agree_engine.specs.Playing.{CanPlay}
-use Rattle.fk_agree_engine.specs.World.{ClientsStand, FunctionsStand, IsWorld, StandsAs}
+use Rattle.fk_agree_engine.specs.World.{FunctionsStand, IsWorld, StandsAs}
 use Rattle.fk_agree_engine.proofs.Flights.{functions_move, functions_start, functions_stay}
 use Rattle.fk_agree_engine.proofs.Readable.{IsSilent, silent_sends, still_readable}
 use Rattle.fk_agree_engine.proofs.Turning.{clients_stay}
@@ -172,19 +169,13 @@ crash_next p h w n r x =
 abbrev crash_entry : ℕ → Option machine.Meaning → Entry
 crash_entry n o = record { event = event.Crash n; op = crash_op n o; lines = [] }
 
-same : (a b : ℕ) → (a == b) ≡ true → a ≡ b
-same a b e = grind (arith, nat_tests)
-
 -- a number under which nothing stands is left without
 without_none : (p : Plan) (n : ℕ) (g : List Entry) (f : functions.Meaning) → place_of p n g ≡ Absent → FunctionsStand p g f → FunctionsStand p g (without n f)
 without_none p n g f a s = record { started = s.started; running = λ k. by_number k (k == n) refl }
   where
     by_number : (k : ℕ) (b : Bool) → (k == n) ≡ b → StandsAs p k g (if b then None else f.running k)
-    by_number k true q = ap (λ z. place_of p z g) (same k n q) ∙ a
+    by_number k true q = ap (λ z. place_of p z g) (eqb-true k n q) ∙ a
     by_number k false q = s.running k
-
-own : (n : ℕ) → (n == n) ≡ true
-own n = grind (arith, nat_tests)
 
 crash_functions : (p : Plan) (h : List Entry) (n : ℕ) (f : functions.Meaning) (o : Option machine.Meaning) → f.running n ≡ o → IsHistory p (crash_entry n o ∷ h) → FunctionsStand p h f → FunctionsStand p (crash_entry n o ∷ h) (without n f)
 crash_functions p h n f None q l s =

@@ -1,6 +1,7 @@
 -- What was sent can be read after a line that sends what can be.
-use Rattle.std.proofs.Common.{◌≡◌, ℕ, ◌++◌, Bool, true, false, List, [], ◌∷◌, refl, sym, ◌∙◌, ap, subst, arith, Option, Some, None}
+use Rattle.std.proofs.Common.{◌≡◌, ℕ, ◌++◌, Bool, true, false, List, [], ◌∷◌, refl, sym, ◌∙◌, subst, Option, Some, None}
 use Rattle.std.specs.Prelude.{⊤}
+use Rattle.std.proofs.lemmas.Option.{same_Some, none-some}
 use Rattle.fk_print.specs.declared.entry.Entry.{Entry}
 use Rattle.fk_print.specs.declared.op.Op.{Op}
 use Rattle.fk_print.specs.declared.op.Op.TheVariants as op
@@ -18,11 +19,10 @@ use Rattle.fk_spec.specs.Start.{or_else}
 use Rattle.fk_spec.specs.Lanes.{Message, inbox_after, inbox_of, posted_in, takes, without_first}
 use Rattle.fk_spec.specs.Teller.{Note, note_in, note_of}
 use Rattle.fk_spec.specs.Next.{IsHistory}
-use Rattle.fk_law_client.proofs.Messages.{none_some, some_same}
 use Rattle.fk_agree.specs.Heads.{note_as}
 use Rattle.fk_agree.specs.Sending.{Sends}
 use Rattle.fk_agree_client.specs.Inbox.{AllSay, CanBeSaid}
-use Rattle.fk_agree_client.proofs.Inbox.{inbox_says_its_messages, none_taken, tell_stays, told_the_same}
+use Rattle.fk_agree_client.proofs.Inbox.{inbox_says_its_messages, tell_stays, told_the_same}
 use Rattle.fk_agree_engine.specs.World.{AreReadable}
 
 -- Pushes and notes. --------------------------------------------------------------------------------------
@@ -42,7 +42,7 @@ all_said p e h [] [] l s k = tt
 all_said p e h [] (m ∷ ms) l s k = absurd s
 all_said p e h (x ∷ xs) [] l s k = absurd s
 all_said p e h (x ∷ xs) (m ∷ ms) l s k = (
-  (λ t q. subst IsTell (some_same s.0.tell t (sym (tell_stays p e h m s.0.tell l s.0.told) ∙ q)) (k.0 s.0.tell s.0.told)),
+  (λ t q. subst IsTell (same_Some s.0.tell t (sym (tell_stays p e h m s.0.tell l s.0.told) ∙ q)) (k.0 s.0.tell s.0.told)),
   all_said p e h xs ms l s.1 k.1,
 )
 
@@ -78,17 +78,17 @@ IsSilent _ = ⊤
 
 no_push : (p : Plan) (t : ℕ) (h : List Entry) (o : Op) (x : Pushed) → IsSilent o → push_here p t h o ≡ Some x → IsPushed x
 no_push p t h (op.Push n s) x k q = absurd k
-no_push p t h o x k q = absurd (none_some x q)
+no_push p t h o x k q = absurd (none-some x q)
 
 no_note : (p : Plan) (w : ℕ) (h : List Entry) (o : Op) (x : Note) → IsSilent o → note_in p w h o ≡ Some x → IsNote (note_as x)
 no_note p w h (op.Notify n t v) x k q = absurd k
-no_note p w h o x k q = absurd (none_some x q)
+no_note p w h o x k q = absurd (none-some x q)
 
 no_tell : (p : Plan) (c : ℕ) (h : List Entry) (o : Op) (m : Message) (t : Tell) → IsSilent o → posted_in p c h o ≡ Some m → IsTell t
 no_tell p c h (op.Reply n s k) m t a q = absurd a
 no_tell p c h (op.Tell n s w) m t a q = absurd a
 no_tell p c h (op.Ping n s) m t a q = absurd a
-no_tell p c h o m t a q = absurd (none_some m q)
+no_tell p c h o m t a q = absurd (none-some m q)
 
 pub silent_sends : (p : Plan) (h : List Entry) (o : Op) → IsSilent o → Sends p h o
 silent_sends p h o k = record { pushes = λ t x q. no_push p t h o x k q; notes = λ w x q. no_note p w h o x k q; tells = λ c m t q r. no_tell p c h o m t k q }

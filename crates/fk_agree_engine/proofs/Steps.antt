@@ -1,12 +1,8 @@
 -- What a step of each function makes, and its fault.
-use Rattle.std.specs.Prelude.{⊤, ◌==◌, ◌<◌, ◌^◌, if◌then◌else◌}
-use Rattle.std.proofs.Common.{◌≡◌, ◌≢◌, ℕ, ◌+◌, ◌⊎◌, inl, inr, Bool, true, false, cond, List, [], ◌∷◌, length, refl, sym, ◌∙◌, ap, subst, arith, Option, Some, None}
-use Rattle.std.proofs.lemmas.Bool.{false≢true}
-use Rattle.std.proofs.lemmas.Bool.Decides.{nat_tests}
+use Rattle.std.proofs.Common.{◌≡◌, ℕ, ◌⊎◌, inl, inr, false, cond, List, ◌∷◌, refl, sym, ◌∙◌, ap, subst, arith, Some, None}
+use Rattle.std.proofs.lemmas.Option.{same_Some}
 use Rattle.fk_print.specs.declared.entry.Entry.{Entry}
-use Rattle.fk_print.specs.declared.event.Event.{Event}
 use Rattle.fk_print.specs.declared.event.Event.TheVariants as event
-use Rattle.fk_print.specs.declared.line.Line.{Line}
 use Rattle.fk_print.specs.declared.op.Op.{Op}
 use Rattle.fk_print.specs.declared.op.Op.TheVariants as op
 use Rattle.fk_queue.specs.Meaning as post
@@ -26,27 +22,26 @@ use Rattle.fk_stand.specs.Posts.{post_after}
 use Rattle.fk_stand.specs.Tables.{table_after}
 use Rattle.fk_spec.specs.Plan.{Plan}
 use Rattle.fk_spec.specs.Start.{clock_of}
-use Rattle.fk_spec.specs.Function.{Absent, Beating, Leading, Telling, Place, actor, fault_op, function_op, place_of}
+use Rattle.fk_spec.specs.Function.{Beating, Leading, Telling, actor, fault_op, function_op, place_of}
 use Rattle.fk_spec.specs.Next.{IsHistory, next_entry, next_lines}
 use Rattle.fk_law.specs.Due.{IsDue}
 use Rattle.fk_law.proofs.Due.{due}
-use Rattle.fk_law_client.proofs.Messages.{none_some, some_same}
 use Rattle.fk_agree.specs.Ends.{HasEnded}
 use Rattle.fk_agree.specs.Sending.{Sends}
 use Rattle.fk_engine.specs.declared.times.Times.{Times}
 use Rattle.fk_engine.specs.Flights.{unless_ended}
 use Rattle.fk_engine.specs.Machines as machine
 use Rattle.fk_engine.specs.Machines.{Follower, Leader, Teller, Beat, after_step, is_ended, lines_by, services_after, step_op}
-use Rattle.fk_engine.specs.Parts.{Meaning}
 use Rattle.fk_engine.specs.Reads.{Read}
 use Rattle.fk_engine.specs.Serving.{armed, calmed}
+use Rattle.fk_agree.proofs.Serving.{IsOf}
 use Rattle.fk_agree_follow.specs.Followers.{IsFollower}
 use Rattle.fk_agree_follow.proofs.Going.{follower_ends_by_fault, follower_goes_on}
 use Rattle.fk_agree_follow.proofs.Making.{Made, made_by, stage_makes}
 use Rattle.fk_agree_follow.proofs.Operating.{calm_follower, follower_fails, follower_makes_its_operation}
 use Rattle.fk_agree_follow.proofs.Writing.{follower_fault_is_written, follower_is_written}
 use Rattle.fk_agree_lead.specs.Leaders.{IsLeader, printed_at}
-use Rattle.fk_agree_lead.proofs.Going.{IsOf, all_of, leader_ends_at_its_fault, leader_goes_on}
+use Rattle.fk_agree_lead.proofs.Going.{all_of, leader_ends_at_its_fault, leader_goes_on}
 use Rattle.fk_agree_lead.proofs.Making.{calm_leader, leader_fails, leader_makes_its_operation, may}
 use Rattle.fk_agree_lead.proofs.Written.{leader_fault_is_written, leader_is_written, leader_prints_its_lines}
 use Rattle.fk_agree_notify.specs.Beats.{IsBeat}
@@ -188,7 +183,7 @@ teller_or p n g m (inr x) = ended p n g (Teller m) x
 
 -- what a watch function and a heartbeat make publishes nothing
 teller_prints : (p : Plan) (h : List Entry) (o : Op) (n : ℕ) (m : teller.Meaning) → IsTeller p n h m → actor o ≡ Some n → IsDue p h o → PublishesNothing o
-teller_prints p h (op.PublishOk k t) n m i a d = apart (sym d.0 ∙ (ap (λ z. place_of p z h) (some_same k n a) ∙ i.stands))
+teller_prints p h (op.PublishOk k t) n m i a d = apart (sym d.0 ∙ (ap (λ z. place_of p z h) (same_Some k n a) ∙ i.stands))
   where
     apart : Leading t leadstage.Publish ≡ Telling m.number m.tx m.stage → ⊥
     apart e = grind arith
@@ -230,7 +225,7 @@ beat_or p n g m (inl i) = going p n g (Beat m) i i.going
 beat_or p n g m (inr x) = ended p n g (Beat m) x
 
 beat_prints : (p : Plan) (h : List Entry) (o : Op) (n : ℕ) (m : beat.Meaning) → IsBeat p n h m → actor o ≡ Some n → IsDue p h o → PublishesNothing o
-beat_prints p h (op.PublishOk k t) n m i a d = apart (sym d.0 ∙ (ap (λ z. place_of p z h) (some_same k n a) ∙ i.stands))
+beat_prints p h (op.PublishOk k t) n m i a d = apart (sym d.0 ∙ (ap (λ z. place_of p z h) (same_Some k n a) ∙ i.stands))
   where
     apart : Leading t leadstage.Publish ≡ Beating m.session m.stage → ⊥
     apart e = grind arith

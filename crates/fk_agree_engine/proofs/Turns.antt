@@ -1,12 +1,11 @@
 -- A client's turn, and one whose operation fails.
-use Rattle.std.specs.Prelude.{⊤, nat_lt, ◌==◌, if◌then◌else◌}
-use Rattle.std.proofs.Common.{◌≡◌, ◌≢◌, ℕ, ◌+◌, Bool, true, false, cond, List, [], ◌∷◌, length, refl, sym, ◌∙◌, ap, subst, arith, Option, Some, None}
+use Rattle.std.specs.Prelude.{nat_lt, if◌then◌else◌}
+use Rattle.std.proofs.Common.{◌≡◌, ℕ, ◌+◌, Bool, true, false, List, [], ◌∷◌, refl, sym, ◌∙◌, ap, subst, arith, Option, Some, None}
 use Rattle.std.proofs.lemmas.Bool.{false≢true}
-use Rattle.std.proofs.lemmas.Bool.Decides.{nat_tests}
+use Rattle.std.proofs.lemmas.Option.{none-some}
 use Rattle.fk_print.specs.declared.entry.Entry.{Entry}
 use Rattle.fk_print.specs.declared.event.Event.{Event}
 use Rattle.fk_print.specs.declared.event.Event.TheVariants as event
-use Rattle.fk_print.specs.declared.line.Line.{Line}
 use Rattle.fk_print.specs.declared.op.Op.{Op}
 use Rattle.fk_print.specs.declared.op.Op.TheVariants as op
 use Rattle.fk_queue.specs.declared.lane.Lane.TheVariants as lane
@@ -17,21 +16,19 @@ use Rattle.fk_store.specs.Meaning as table
 use Rattle.fk_user.specs.Meaning as user
 use Rattle.fk_watch.specs.Meaning as watches
 use Rattle.fk_watch.specs.Services.{Services}
-use Rattle.fk_stand.specs.Posts.{lane_after}
 use Rattle.fk_stand.specs.Standing.{Standing}
 use Rattle.fk_spec.specs.Plan.{Plan, Ask, Want, Unfit, Writes, Reads, is_client, nth}
 use Rattle.fk_spec.specs.Start.{clock_after, clock_of, started_in}
 use Rattle.fk_spec.specs.Settling.{Outcome, Committed, Refused, Passed}
 use Rattle.fk_spec.specs.Sight.{Sight, sight_of}
-use Rattle.fk_spec.specs.Lanes.{Message, Done, Evicted, Kept, Watch, Ping, inbox_of}
+use Rattle.fk_spec.specs.Lanes.{Message, Done, Evicted, Kept, Watch, Ping}
 use Rattle.fk_tree.specs.Ask.{path_asked}
 use Rattle.fk_tree.specs.Watch.{kind_asked}
 use Rattle.fk_client.specs.Shown.{lines_by}
-use Rattle.fk_spec.specs.Client.{by_result, client_of, Client, Keeping, Reading, Target, begin_asked, begin_op, client_in, client_op, failed_op, first_held, held_op, local_if, look_op, look_or, may_begin, next_asked, number_read, op_of_client, pong_or, register_asked, register_for, take_op, take_or, target_of, watch_or}
+use Rattle.fk_spec.specs.Client.{by_result, client_of, Client, Keeping, Reading, Target, begin_asked, begin_op, client_in, client_op, failed_op, first_held, held_op, look_or, may_begin, next_asked, number_read, op_of_client, pong_or, register_asked, register_for, take_op, take_or, target_of, watch_or}
 use Rattle.fk_spec.specs.Function.{actor}
 use Rattle.fk_spec.specs.Schedule as schedule
 use Rattle.fk_spec.specs.Next.{IsHistory, next_entry, next_lines}
-use Rattle.fk_law_client.proofs.Messages.{none_some, some_same}
 use Rattle.fk_client.specs.Idle.{is_idle}
 use Rattle.fk_client.specs.Meaning as client
 use Rattle.fk_client.specs.Operation.{step_op}
@@ -59,7 +56,7 @@ use Rattle.fk_agree_engine.specs.World.{IsWorld}
 use Rattle.fk_agree_engine.proofs.Flights.{functions_stay}
 use Rattle.fk_agree_engine.proofs.Plain.{idle_goes_on, longer}
 use Rattle.fk_agree_engine.proofs.Readable.{IsSilent, silent_sends, still_readable}
-use Rattle.fk_agree_engine.proofs.Turning.{client_there, clients_stay, clients_turn, same_clients}
+use Rattle.fk_agree_engine.proofs.Turning.{client_there, clients_turn, same_clients}
 
 -- The operation of a client is its own. ------------------------------------------------------------------
 
@@ -173,7 +170,7 @@ failed_so (op.LookFault d i) c e = tt
 failed_so (op.SendFault d i) c e = tt
 failed_so (op.ReadFault d i) c e = tt
 failed_so (op.WatchFault d i) c e = tt
-failed_so o c e = absurd (none_some c e)
+failed_so o c e = absurd (none-some c e)
 
 is_none : (o : Op) → schedule.is_idle o ≡ true → o ≡ op.Idle
 is_none op.Idle e = refl
@@ -191,11 +188,11 @@ no_clock : (o : Op) (c n : ℕ) → client_in o ≡ Some c → clock_after o n �
 no_clock o c n e = grind arith
 
 no_sending : (o : Op) (c : ℕ) → client_in o ≡ Some c → IsSilent o
-no_sending (op.Push n t) c e = absurd (none_some c e)
-no_sending (op.Notify n t w) c e = absurd (none_some c e)
-no_sending (op.Reply n d k) c e = absurd (none_some c e)
-no_sending (op.Tell n d w) c e = absurd (none_some c e)
-no_sending (op.Ping n d) c e = absurd (none_some c e)
+no_sending (op.Push n t) c e = absurd (none-some c e)
+no_sending (op.Notify n t w) c e = absurd (none-some c e)
+no_sending (op.Reply n d k) c e = absurd (none-some c e)
+no_sending (op.Tell n d w) c e = absurd (none-some c e)
+no_sending (op.Ping n d) c e = absurd (none-some c e)
 no_sending o c e = tt
 
 -- a client's operation, which leaves its client and the services so
@@ -239,7 +236,7 @@ abbrev turn_entry : Event → Services → Option Tell → Option client.Meaning
 turn_entry v s o m = record { event = v; op = turning.client_op s o m; lines = client_lines s o m }
 
 -- an entry of this event, with the lines that the rules say
-abbrev ruled : Plan → List Entry → Event → Op → Entry
+abbrev pub ruled : Plan → List Entry → Event → Op → Entry
 ruled p h v o = record { event = v; op = o; lines = next_lines p h o }
 
 idle_next : (p : Plan) (h : List Entry) (v : Event) (o : Op) → o ≡ op.Idle → ruled p h v op.Idle ≡ ruled p h v o

@@ -35,6 +35,7 @@ use Rattle.fk_law.proofs.Sending.{origin_stays}
 use Rattle.fk_law.proofs.Settled.{reached, settled_were_sent, settles_the_next}
 use Rattle.fk_law.proofs.Standing.{OnStanding, standing_step}
 use Rattle.fk_law.proofs.Starting.{follower_task, place_bound}
+use Rattle.fk_law.proofs.Numbering.{AllAtMost, more_at_most}
 
 -- What grows. -------------------------------------------------------------------------------------------
 
@@ -61,24 +62,15 @@ starts_grow e h = grow (started_in e.op) (starts_of h)
 commit_low : (p : Plan) (n t : ℕ) (h : List Entry) → IsHistory p h → IsDue p h (op.CommitOk n t) → t ≤ pushes_of h
 commit_low p n t h l d = let v = (commit_is p n t h l d).live.is_of in (push_bound p t h v.push l v.pushed).2
 
--- each of these commits is numbered at most so
-abbrev AreLow : ℕ → List Applied → Type 0
-AreLow n [] = Unit {0}
-AreLow n (a ∷ done) = (a.tx ≤ n) × AreLow n done
-
-low_more : (m n : ℕ) (done : List Applied) → m ≤ n → AreLow m done → AreLow n done
-low_more m n [] b i = tt
-low_more m n (a ∷ done) b i = (let c = i.0 in omega (arith, b, c), low_more m n done b i.1)
-
-commits_step : (p : Plan) (h : List Entry) (o : Op) → IsHistory p h → IsDue p h o → AreLow (pushes_of h) (committed_of p h) → AreLow (pushes_of h) (committed_in p h o (committed_of p h))
-commits_step p h (op.CommitOk n t) l d i = subst (λ y. AreLow (pushes_of h) (with_filled (committed_of p h) t y)) (sym (commit_is p n t h l d).is) (commit_low p n t h l d, i)
+commits_step : (p : Plan) (h : List Entry) (o : Op) → IsHistory p h → IsDue p h o → AllAtMost (pushes_of h) (committed_of p h) → AllAtMost (pushes_of h) (committed_in p h o (committed_of p h))
+commits_step p h (op.CommitOk n t) l d i = subst (λ y. AllAtMost (pushes_of h) (with_filled (committed_of p h) t y)) (sym (commit_is p n t h l d).is) (commit_low p n t h l d, i)
 commits_step p h o l d i = i
 
-commits_low : (p : Plan) (h : List Entry) → IsHistory p h → AreLow (pushes_of h) (committed_of p h)
+commits_low : (p : Plan) (h : List Entry) → IsHistory p h → AllAtMost (pushes_of h) (committed_of p h)
 commits_low p [] l = tt
-commits_low p (e ∷ h) l = low_more (pushes_of h) (pushes_of (e ∷ h)) (committed_of p (e ∷ h)) (pushes_grow e h) (commits_step p h e.op l.0 (due p e h l) (commits_low p h l.0))
+commits_low p (e ∷ h) l = more_at_most (pushes_of h) (pushes_of (e ∷ h)) (committed_of p (e ∷ h)) (pushes_grow e h) (commits_step p h e.op l.0 (due p e h l) (commits_low p h l.0))
 
-editor_low : (n : ℕ) (path : PathNames) (done : List Applied) → AreLow n done → last_editor path done ≤ n
+editor_low : (n : ℕ) (path : PathNames) (done : List Applied) → AllAtMost n done → last_editor path done ≤ n
 editor_low n path [] i = omega arith
 editor_low n path (a ∷ done) i = by_test (has_path path (edited_paths a)) (λ b. cond b a.tx (last_editor path done) ≤ n) (λ _. i.0) (λ _. editor_low n path done i.1)
 

@@ -14,7 +14,7 @@ use Rattle.fk_queue.specs.Meaning as post
 use Rattle.fk_queue.specs.declared.lane.Lane.TheVariants as lane
 use Rattle.fk_store.specs.Conds.{session_of}
 use Rattle.fk_store.specs.Meaning as table
-use Rattle.fk_store.specs.Meaning.{lock_of, or_no_record}
+use Rattle.fk_store.specs.Meaning.{lock_of}
 use Rattle.fk_store.specs.declared.outcome.Outcome.TheVariants as kept
 use Rattle.fk_follow.specs.Fit.{IsReadAt}
 use Rattle.fk_follow.specs.Meaning as follow
@@ -34,7 +34,7 @@ use Rattle.fk_spec.specs.Locks as rules
 use Rattle.fk_spec.specs.Settling.{Outcome, Passed, Refused, last_of_session, outcome_here, outcome_of, settled_of, settling}
 use Rattle.fk_spec.specs.Stored.{committed_of, last_edit, owned_after, stored_view}
 use Rattle.fk_spec.specs.Follower as stage
-use Rattle.fk_spec.specs.Follower.{Follower, Granted, Stage, commit_locked, refuse_locked, to_begin, to_lock}
+use Rattle.fk_spec.specs.Follower.{Follower, Stage, commit_locked, refuse_locked, to_begin, to_lock}
 use Rattle.fk_spec.specs.Function.{Absent, Following, actor, follow_on, follower_word, moved, place_of}
 use Rattle.fk_spec.specs.Next.{IsHistory}
 use Rattle.fk_law.specs.Due.{IsDue}
@@ -45,13 +45,12 @@ use Rattle.fk_law.proofs.Moving.{ahead}
 use Rattle.fk_law.proofs.Sending.{origin_stays, request_stays}
 use Rattle.fk_law.proofs.Starting.{own_operation_moves_it}
 use Rattle.fk_agree.specs.Ends.{HasEnded}
-use Rattle.fk_agree.proofs.Carried.{its_message}
+use Rattle.fk_agree.proofs.Carried.{its_message, message_at}
 use Rattle.fk_agree.proofs.Granting.{shows_last, shows_node}
 use Rattle.fk_agree.proofs.Serving.{session_is}
 use Rattle.fk_agree_follow.specs.Followers.{FollowerEndsByFault, FollowerGoesOn, IsFollower, Keeps}
 use Rattle.fk_agree_follow.proofs.Making.{Made, ack_all, by_settling, either, lock_all, made_by, session_all, stage_makes}
 use Rattle.fk_agree_follow.proofs.Operating.{calm_follower, follower_faults, given_so, its_client, its_session, its_task}
-use Rattle.fk_agree_follow.proofs.Posting.{its_push}
 use Rattle.fk_agree_follow.proofs.Reading.{owned_same}
 use Rattle.fk_agree_follow.proofs.Staying.{was_sent}
 
@@ -245,7 +244,7 @@ going p n v (op.Push k tx) ls h m t owned l i s d a g =
       follower = refl;
       owns = i.owns;
       keeps = (
-        ap (λ z. or_else z (push_message_of p tx h)) (its_message p tx k h (op.Push k tx) refl ∙ its_push p k tx h m.follower r b i.requested)
+        ap (λ z. or_else z (push_message_of p tx h)) (its_message p tx k h (op.Push k tx) refl ∙ message_at p k tx h m.follower r b i.requested)
             ∙ ap (λ z. Some (push_with z (clock_of h) m.follower r)) (a ∙ sym i.inv),
         refl,
       );

@@ -3,7 +3,6 @@ use Rattle.std.specs.Prelude.{◌==◌, if◌then◌else◌, option_and_then, op
 use Rattle.std.proofs.Common.{◌≡◌, ℕ, Bool, true, false, List, ◌∷◌, refl, sym, ◌∙◌, ap, subst, Option, Some, None}
 use Rattle.std.proofs.lemmas.Bool.{eq-eqb, eqb-true, false≢true}
 use Rattle.fk_tree.specs.declared.request.Request.{Request}
-use Rattle.fk_tree.specs.declared.request.Request.TheVariants as request
 use Rattle.fk_print.specs.declared.entry.Entry.{Entry}
 use Rattle.fk_print.specs.declared.op.Op.TheVariants as op
 use Rattle.fk_queue.specs.Answers.{ack_of, after_ack}
@@ -13,14 +12,13 @@ use Rattle.fk_queue.specs.Meaning.{pushed}
 use Rattle.fk_queue.specs.declared.lane.Lane.{Lane}
 use Rattle.fk_queue.specs.declared.lane.Lane.TheVariants as lane
 use Rattle.fk_store.specs.declared.outcome.Outcome as store
-use Rattle.fk_follow.specs.Services as follow
-use Rattle.fk_follow.specs.Services.{push_at, stage_post, told}
+use Rattle.fk_follow.specs.Services.{told}
 use Rattle.fk_wire.specs.PushedText.{pushed_text}
 use Rattle.fk_wire.specs.TellText.{tell_text}
 use Rattle.fk_wire.specs.declared.message.Tell.{Tell}
 use Rattle.fk_wire.specs.declared.version.Version.TheVariants as version
 use Rattle.fk_stand.specs.Messages as stand
-use Rattle.fk_stand.specs.Messages.{push_by, tell_of}
+use Rattle.fk_stand.specs.Messages.{tell_of}
 use Rattle.fk_stand.specs.Posts.{letter_in, post_after}
 use Rattle.fk_stand.specs.Tables.{kept_as}
 use Rattle.fk_spec.specs.Plan.{Plan, is_client}
@@ -32,6 +30,7 @@ use Rattle.fk_spec.specs.Lanes.{follows_session, is_evict, kept_message, leads, 
 use Rattle.fk_agree.specs.Letters.{LeavesLane}
 use Rattle.fk_agree.proofs.Posting.{letter_is_pushed, post_stays}
 use Rattle.fk_agree.proofs.Serving.{acked_post, other_number}
+use Rattle.fk_agree.proofs.Carried.{message_at}
 
 -- A push. -----------------------------------------------------------------------------------------------
 
@@ -41,13 +40,9 @@ pushed_elsewhere p n tx h lane.Watch e = record { none = refl; kept = refl }
 pushed_elsewhere p n tx h (lane.Session c) e = record { none = refl; kept = refl }
 pushed_elsewhere p n tx h (lane.Inbox c) e = record { none = refl; kept = refl }
 
--- the message that its line puts into the leader's lane
-pub its_push : (p : Plan) (n tx : ℕ) (h : List Entry) (f : Follower) (r : Request) → place_of p n h ≡ Following f → request_of p f.session f.k h ≡ Some r → stand.push_message p h (op.Push n tx) ≡ Some (stand.push_with n (clock_of h) f r)
-its_push p n tx h f r b q = ap (push_by p h n) b ∙ ap (option_map (stand.push_with n (clock_of h) f)) q
-
 pub pushed_post : (p : Plan) (n tx faults : ℕ) (e : Entry) (h : List Entry) (f : Follower) (r : Request) → e.op ≡ op.Push n tx → place_of p n h ≡ Following f → request_of p f.session f.k h ≡ Some r → pushed lane.Leader (pushed_text version.Two (stand.push_with n (clock_of h) f r)) (post_after p h faults) ≡ post_after p (e ∷ h) faults
 pushed_post p n tx faults e h f r g b q =
-    letter_is_pushed p faults lane.Leader (pushed_text version.Two (stand.push_with n (clock_of h) f r)) e h refl (ap (letter_in p lane.Leader h) g ∙ ap (option_map (pushed_text version.Two)) (its_push p n tx h f r b q)) (λ y x. subst (LeavesLane p y h) (sym g) (pushed_elsewhere p n tx h y x))
+    letter_is_pushed p faults lane.Leader (pushed_text version.Two (stand.push_with n (clock_of h) f r)) e h refl (ap (letter_in p lane.Leader h) g ∙ ap (option_map (pushed_text version.Two)) (message_at p n tx h f r b q)) (λ y x. subst (LeavesLane p y h) (sym g) (pushed_elsewhere p n tx h y x))
 
 -- A reply. ----------------------------------------------------------------------------------------------
 

@@ -1,21 +1,20 @@
 -- What a follower reads of the services is what the rules read of the history.
 use Rattle.std.specs.Prelude.{◌+◌, ◌==◌, ◌||◌, if◌then◌else◌, nat_lt, not}
-use Rattle.std.proofs.Common.{◌≡◌, ◌≢◌, ℕ, Bool, true, false, List, [], ◌∷◌, refl, sym, ◌∙◌, ap, arith, Option, Some, None}
+use Rattle.std.proofs.Common.{◌≡◌, ◌≢◌, ℕ, Bool, true, false, List, refl, sym, ◌∙◌, ap, arith, Option, Some, None}
 use Rattle.std.proofs.lemmas.Bool.Decides.{nat_tests}
 use Rattle.fk_base.specs.Path.{PathNames}
 use Rattle.fk_tree.specs.Sorted.{in_path_order}
 use Rattle.fk_tree.specs.declared.node.Node.{Node}
+use Rattle.fk_tree.specs.Rows.{is_of}
 use Rattle.fk_tree.proofs.Order.{by_test, path_exact, path_total}
 use Rattle.fk_tree.proofs.Rising.{same_rising}
 use Rattle.fk_print.specs.declared.entry.Entry.{Entry}
 use Rattle.fk_print.specs.declared.op.Op.TheVariants as op
 use Rattle.fk_store.specs.Answers.{AreOwned, has_owner}
 use Rattle.fk_store.specs.Locks as store
-use Rattle.fk_store.specs.Locks.{is_free}
 use Rattle.fk_store.specs.Meaning.{lock_of, or_no_record}
 use Rattle.fk_store.specs.declared.node_record.NodeRecord.{NodeRecord}
 use Rattle.fk_follow.specs.Operation as follow
-use Rattle.fk_law_tree.specs.Owners.{is_owned}
 use Rattle.fk_law.proofs.Filling.{owned_has, owned_rise}
 use Rattle.fk_stand.specs.Tables.{kept_as, lock_from, session_record, table_after}
 use Rattle.fk_spec.specs.Plan.{Plan}
@@ -24,7 +23,7 @@ use Rattle.fk_spec.specs.Locks.{Grant, granted, has_released, last_grant, may_gr
 use Rattle.fk_spec.specs.Settling.{Committed, Outcome, Passed, Refused, outcome_of, settled_of}
 use Rattle.fk_spec.specs.Stored.{committed_of, owned_after, stored_view}
 use Rattle.fk_spec.specs.Follower as follower
-use Rattle.fk_spec.specs.Follower.{Follower, Granted, busy_op, paths_of, unsettled_op}
+use Rattle.fk_spec.specs.Follower.{Follower, busy_op, unsettled_op}
 use Rattle.fk_spec.specs.Function.{Following, place_of}
 use Rattle.fk_spec.specs.Next.{IsHistory}
 use Rattle.fk_law.proofs.Recording.{records_are_of_its_grants}
@@ -61,15 +60,15 @@ locked_is p n h f l b = ap in_path_order (records_are_of_its_grants p n h f l b)
 
 -- The nodes of a session. -------------------------------------------------------------------------------
 
-owner_is : (c : ℕ) (o : Option Node) → (is_owned c o) ≡ has_owner c (Some (record { node = o; lock = store.no_lock; last = 0 }))
+owner_is : (c : ℕ) (o : Option Node) → (is_of c o) ≡ has_owner c (Some (record { node = o; lock = store.no_lock; last = 0 }))
 owner_is c None = refl
 owner_is c (Some x) = refl
 
-owner_of_record : (c : ℕ) (o : Option NodeRecord) → has_owner c o ≡ is_owned c (or_no_record o).node
+owner_of_record : (c : ℕ) (o : Option NodeRecord) → has_owner c o ≡ is_of c (or_no_record o).node
 owner_of_record c None = refl
 owner_of_record c (Some r) = sym (owner_is c r.node)
 
 pub owned_same : (p : Plan) (c faults : ℕ) (h : List Entry) (owned : List PathNames) → IsHistory p h → c ≢ 0 → AreOwned (table_after p h faults) c owned → owned ≡ owned_after c (committed_of p h)
 owned_same p c faults h owned l z o =
     same_rising path_total path_exact owned (owned_after c (committed_of p h)) o.rising (owned_rise c (committed_of p h))
-    (λ q. o.exact q ∙ (owner_of_record c ((table_after p h faults).nodes q) ∙ (ap (is_owned c) (shows_node p q h l) ∙ sym (owned_has c (committed_of p h) q z))))
+    (λ q. o.exact q ∙ (owner_of_record c ((table_after p h faults).nodes q) ∙ (ap (is_of c) (shows_node p q h l) ∙ sym (owned_has c (committed_of p h) q z))))

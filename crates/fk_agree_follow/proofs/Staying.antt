@@ -15,7 +15,7 @@ use Rattle.fk_spec.specs.Start.{clock_of, seen_from, sends_of}
 use Rattle.fk_spec.specs.Locks.{Loss, loss_in, loss_of, own_moment, own_moment_in}
 use Rattle.fk_spec.specs.Settling.{Passed, outcome_of, settled_of}
 use Rattle.fk_spec.specs.Follower as stage
-use Rattle.fk_spec.specs.Follower.{Follower, Stage}
+use Rattle.fk_spec.specs.Follower.{Stage}
 use Rattle.fk_spec.specs.Function.{actor, is_absent}
 use Rattle.fk_spec.specs.Next.{IsHistory}
 use Rattle.fk_law.specs.Progress.{progress}

@@ -32,7 +32,7 @@ use Rattle.fk_spec.specs.Plan.{Plan}
 use Rattle.fk_spec.specs.Start.{Follows, clock_of, request_of, task_of}
 use Rattle.fk_spec.specs.Locks.{granted}
 use Rattle.fk_spec.specs.Follower as stage
-use Rattle.fk_spec.specs.Follower.{Follower, Stage, ack_op, commit_locked, refuse_locked}
+use Rattle.fk_spec.specs.Follower.{Stage, commit_locked, refuse_locked}
 use Rattle.fk_spec.specs.Function.{Following, follower_word, place_of}
 use Rattle.fk_spec.specs.Next.{IsHistory}
 use Rattle.fk_law.proofs.Settled.{reached}
@@ -41,9 +41,9 @@ use Rattle.fk_agree.specs.Stored.{LeavesStore}
 use Rattle.fk_agree.specs.Watched.{LeavesWatches}
 use Rattle.fk_agree.proofs.Committing.{commit_is_written}
 use Rattle.fk_agree.proofs.Granting.{grant_is_written, records_stay}
-use Rattle.fk_agree.proofs.Held.{left_table, settled_if, settled_so, settled_table}
+use Rattle.fk_agree.proofs.Held.{left_table, settled_if, settled_so, settled_table, left_post}
 use Rattle.fk_agree.proofs.Putting.{store_stays}
-use Rattle.fk_agree.proofs.Serving.{LeavesPost, fault_leaves, post_left, post_stands, services_stay, table_stands}
+use Rattle.fk_agree.proofs.Serving.{LeavesPost, fault_leaves, post_stands, services_stay, table_stands}
 use Rattle.fk_agree.proofs.Settling.{expired_is_granted_nothing, loss_is_written, refusal_is_written}
 use Rattle.fk_agree.proofs.Watching.{watches_stay}
 use Rattle.fk_agree_follow.specs.Followers.{FollowerFaultIsWritten, FollowerIsWritten, Keeps}
@@ -112,9 +112,6 @@ table_case p n a b e h m owned stage.Ack y l i k g = sym (records_stay p a e h (
 table_case p n a b e h m owned stage.Ended y l i k g = sym (records_stay p a e h (subst LeavesRecords (sym g) tt))
 
 -- The post. ---------------------------------------------------------------------------------------------
-
-left_post : (p : Plan) (faults : ℕ) (e : Entry) (h : List Entry) (o : Op) → e.op ≡ o → LeavesPost o → post_after p h faults ≡ post_after p (e ∷ h) faults
-left_post p faults e h o g k = sym (post_left p faults e h o g k)
 
 post_case : (p : Plan) (n a b : ℕ) (e : Entry) (h : List Entry) (m : Meaning) (owned : List PathNames) (x : Stage) → Works p n h m → request_of p m.follower.session m.follower.k h ≡ Some m.message.request → Keeps p m.inv h m x
     → e.op ≡ calm_op (table_after p h a) (post_after p h b) (clock_of h) p.lock owned m.inv m.follower x → stage_post (post_after p h b) (clock_of h) m x ≡ post_after p (e ∷ h) b

@@ -1,6 +1,6 @@
 -- What a sweep gives is what the rules read, and the numbers of what it lists were given.
 use Rattle.std.specs.Prelude.{◌==◌, ◌||◌, is_some}
-use Rattle.std.proofs.Common.{◌≡◌, ℕ, ◌≤◌, ◌<◌, inr, Bool, true, false, cond, List, [], ◌∷◌, refl, ◌∙◌, ap, subst, arith, Option, Some, None}
+use Rattle.std.proofs.Common.{◌≡◌, ℕ, ◌≤◌, ◌<◌, inr, Bool, true, false, cond, List, [], ◌∷◌, refl, ◌∙◌, ap, subst, arith, Some, None}
 use Rattle.std.proofs.lemmas.Bool.{false≢true}
 use Rattle.fk_tree.proofs.Order.{by_test}
 use Rattle.fk_print.specs.declared.entry.Entry.{Entry}
@@ -11,7 +11,6 @@ use Rattle.fk_lead.specs.Sweeping.{AreSwept}
 use Rattle.fk_stand.specs.Stores.{watches_after}
 use Rattle.fk_spec.specs.Plan.{Plan}
 use Rattle.fk_spec.specs.Settling.{mark_of, swept_of}
-use Rattle.fk_spec.specs.Start.{or_else}
 use Rattle.fk_spec.specs.Watches as rules
 use Rattle.fk_spec.specs.Watches.{Firing, epoch_of, fired_by, fired_watches, firing_in, firing_of, firings, given_of, ids_of, set_watches, sweep_in, swept_by, swept_or, touches_of_push}
 use Rattle.fk_spec.specs.Client.{contains}
@@ -19,12 +18,12 @@ use Rattle.fk_spec.specs.Next.{IsHistory}
 use Rattle.fk_law.specs.Due.{IsDue}
 use Rattle.fk_law.proofs.Due.{due}
 use Rattle.fk_law.proofs.Leading.{mark_behind_sweep}
+use Rattle.fk_law.proofs.Numbers.{itself}
 use Rattle.fk_law_watch.specs.Noting.{fired_at, fired_at_in, is_told, tells_all, untold}
-use Rattle.fk_law_watch.proofs.Epochs.{by_contains, listed_has_fired}
+use Rattle.fk_law_watch.proofs.Epochs.{by_contains, listed_has_fired, some_right}
 use Rattle.fk_law_watch.proofs.Noting.{fired_is_listed, told_published}
 use Rattle.fk_law_watch.proofs.SetWatches.{set_or_fired_were_given}
 use Rattle.fk_agree.proofs.Sweeping.{epoch_is_the_rules, fired_are_the_rules}
-use Rattle.fk_agree.proofs.Writing.{same_number}
 use Rattle.fk_agree_lead.specs.Leaders.{swept_as}
 
 -- A sweep. ----------------------------------------------------------------------------------------------
@@ -42,7 +41,7 @@ pub newly_listed : (p : Plan) (n t k : ℕ) (e : Entry) (h : List Entry) → IsH
 newly_listed p n t k e h l g =
     fired_is_listed p t (e ∷ h) l
     ∙ (ap (λ o. untold (tells_all t o || is_told t h) (fired_at_in p t h o (fired_at p t h))) g
-    ∙ (ap (λ b. untold b (cond (t == t) new (fired_at p t h))) (not_told (is_told t h) refl) ∙ ap (λ b. cond b new (fired_at p t h)) (same_number t)))
+    ∙ (ap (λ b. untold b (cond (t == t) new (fired_at p t h))) (not_told (is_told t h) refl) ∙ ap (λ b. cond b new (fired_at p t h)) (itself t)))
   where
     new : List Firing
     new = firings t (touches_of_push p t h) (set_watches p h)
@@ -63,11 +62,6 @@ newly_listed p n t k e h l g =
 abbrev HasFired : Plan → List Entry → ℕ → Type 0
 HasFired p h id = is_some (firing_of p id h) ≡ true
 
--- what has fired stays so
-fired_more : (a b : Option Firing) → is_some b ≡ true → is_some (or_else a b) ≡ true
-fired_more None b e = e
-fired_more (Some f) b e = refl
-
 -- a sweep gives what has fired
 hand_step : (p : Plan) (n id : ℕ) (g : List Entry) (o : Op) (s : rules.Swept) → (contains id (ids_of s.fired) ≡ true → HasFired p g id) → contains id (ids_of (swept_or (sweep_in n o (fired_watches p g)) s).fired) ≡ true → HasFired p g id
 hand_step p n id g (op.SweepOk m t k) s i = by_test (m == n) (λ b. contains id (ids_of (swept_or (cond b (Some (listed_of t (fired_watches p g))) None) s).fired) ≡ true → HasFired p g id) (λ _ e. listed_has_fired p id g (by_contains id t (fired_watches p g) e)) (λ _ e. i e)
@@ -77,7 +71,7 @@ hand_step p n id g o s i = i
 -- what a leader got from its sweep has fired
 in_hand_has_fired : (p : Plan) (n id : ℕ) (h : List Entry) → contains id (ids_of (swept_by p n h).fired) ≡ true → HasFired p h id
 in_hand_has_fired p n id [] e = absurd (false≢true e)
-in_hand_has_fired p n id (x ∷ h) e = hand_step p n id (x ∷ h) x.op (swept_by p n h) (λ f. fired_more (firing_in p id h x.op) (firing_of p id h) (in_hand_has_fired p n id h f)) e
+in_hand_has_fired p n id (x ∷ h) e = hand_step p n id (x ∷ h) x.op (swept_by p n h) (λ f. some_right (firing_in p id h x.op) (firing_of p id h) (in_hand_has_fired p n id h f)) e
 
 -- its number was given
 pub in_hand_was_given : (p : Plan) (n id : ℕ) (h : List Entry) → IsHistory p h → contains id (ids_of (swept_by p n h).fired) ≡ true → id ≤ given_of h

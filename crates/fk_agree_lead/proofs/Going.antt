@@ -2,6 +2,7 @@
 use Rattle.std.specs.Prelude.{length, map}
 use Rattle.std.proofs.Common.{◌≡◌, ℕ, inl, inr, ◌⊎◌, false, List, [], ◌∷◌, refl, sym, ◌∙◌, ap, subst, arith, Some}
 use Rattle.std.proofs.lemmas.Bool.{false≢true}
+use Rattle.std.proofs.lemmas.Option.{same_Some}
 use Rattle.fk_tree.specs.Touch.{edited_paths}
 use Rattle.fk_print.specs.declared.entry.Entry.{Entry}
 use Rattle.fk_print.specs.declared.op.Op.{Op}
@@ -32,13 +33,11 @@ use Rattle.fk_law.proofs.Starting.{own_operation_moves_it}
 use Rattle.fk_law_watch.proofs.Handing.{swept_now}
 use Rattle.fk_agree.specs.Ends.{HasEnded}
 use Rattle.fk_agree.proofs.Heading.{message_stays}
+use Rattle.fk_agree.proofs.Serving.{IsOf}
 use Rattle.fk_agree_lead.specs.Leaders.{IsLeader, LeaderEndsAtItsFault, LeaderGoesOn, swept_as}
 use Rattle.fk_agree_lead.proofs.Given.{listed_of}
 use Rattle.fk_agree_lead.proofs.Making.{May, calm_leader, given_is_listed, leader_faults, may}
 use Rattle.fk_agree_lead.proofs.Pushed.{HasCommit, its_commit}
-
-same_function : (n k : ℕ) → Some n ≡ Some k → n ≡ k
-same_function n k e = cc
 
 -- What comes after each answer. -------------------------------------------------------------------------
 
@@ -75,8 +74,8 @@ after_answer p h m s o a b = refl
 
 -- a leader that publishes has in hand what the rules read
 is_notified : (p : Plan) (n : ℕ) (h : List Entry) (m : Meaning) (o : Op) → m.swept ≡ swept_as (swept_by p n h) → actor o ≡ Some n → IsNotified p h m o
-is_notified p n h m (op.PublishOk k t) e a = ap (λ z. lead.to_notify z.fired) e ∙ (notified (swept_by p n h).fired ∙ ap (λ z. to_notify (swept_by p z h).fired) (same_function n k (sym a)))
-is_notified p n h m (op.PublishMiss k t mark) e a = ap (λ z. lead.to_notify z.fired) e ∙ (notified (swept_by p n h).fired ∙ ap (λ z. to_notify (swept_by p z h).fired) (same_function n k (sym a)))
+is_notified p n h m (op.PublishOk k t) e a = ap (λ z. lead.to_notify z.fired) e ∙ (notified (swept_by p n h).fired ∙ ap (λ z. to_notify (swept_by p z h).fired) (same_Some n k (sym a)))
+is_notified p n h m (op.PublishMiss k t mark) e a = ap (λ z. lead.to_notify z.fired) e ∙ (notified (swept_by p n h).fired ∙ ap (λ z. to_notify (swept_by p z h).fired) (same_Some n k (sym a)))
 is_notified p n h m o e a = tt
 
 -- What its sweep gives. ---------------------------------------------------------------------------------
@@ -94,11 +93,11 @@ one_place t r x y e = grind arith
 -- each sweep of a leader is its own
 sweeps_it : (p : Plan) (n : ℕ) (h : List Entry) (m : Meaning) (o : Op) → IsDue p h o → place_of p n h ≡ Leading m.tx m.stage → actor o ≡ Some n → SweepsIt o n m
 sweeps_it p n h m (op.SweepOk k t fired) d b a =
-    let e : k ≡ n = same_function k n a in
+    let e : k ≡ n = same_Some k n a in
     let r = one_place t m.tx leader.Sweep m.stage (sym d.0 ∙ (ap (λ z. place_of p z h) e ∙ b)) in
     (e, r.0, r.1)
 sweeps_it p n h m (op.SweepMiss k t w fired) d b a =
-    let e : k ≡ n = same_function k n a in
+    let e : k ≡ n = same_Some k n a in
     let r = one_place t m.tx leader.Sweep m.stage (sym d.0 ∙ (ap (λ z. place_of p z h) e ∙ b)) in
     (e, r.0, r.1)
 sweeps_it p n h m o d b a = tt
@@ -128,10 +127,6 @@ after_place p n g m leader.Reply s e f w a = inl (record { inv = e; going = refl
 after_place p n g m leader.Done s e f w a = inl (record { inv = e; going = refl; stands = a; message = f; swept = w })
 after_place p n g m leader.Ack s e f w a = inl (record { inv = e; going = refl; stands = a; message = f; swept = w })
 after_place p n g m leader.Ended s e f w a = inr (record { is_so = refl; absent = a })
-
--- the operation of function n
-abbrev pub IsOf : ℕ → Op → Type 0
-IsOf n o = actor o ≡ Some n
 
 -- each operation that it may make is its own
 pub all_of : (m : Meaning) (x : Stage) → is_end x ≡ false → May (IsOf m.inv) m x

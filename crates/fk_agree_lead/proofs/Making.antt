@@ -1,5 +1,5 @@
 -- A leader makes the operation that the rules name, and the fault that they name.
-use Rattle.std.specs.Prelude.{◌==◌, nat_lt, if◌then◌else◌, length, map, option_map}
+use Rattle.std.specs.Prelude.{◌==◌, nat_lt, if◌then◌else◌, length, map}
 use Rattle.std.proofs.Common.{◌≡◌, ℕ, suc, ◌+◌, Bool, true, false, List, [], ◌∷◌, refl, sym, ◌∙◌, ap, subst, Option, Some, None}
 use Rattle.std.proofs.lemmas.Bool.{cond_both, false≢true}
 use Rattle.fk_base.specs.Path.{PathNames}
@@ -14,7 +14,6 @@ use Rattle.fk_queue.specs.Meaning as post
 use Rattle.fk_queue.specs.declared.lane.Lane.TheVariants as lane
 use Rattle.fk_store.specs.Conds.{session_of}
 use Rattle.fk_store.specs.Meaning as table
-use Rattle.fk_store.specs.Meaning.{lock_of}
 use Rattle.fk_user.specs.Meaning as user
 use Rattle.fk_watch.specs.Meaning as watches
 use Rattle.fk_watch.specs.Notes.{fired_as}

@@ -19,10 +19,10 @@ use Rattle.fk_spec.specs.Client.{contains}
 use Rattle.fk_spec.specs.Next.{IsHistory}
 use Rattle.fk_law.proofs.Leading.{leader_at_or_below_the_head}
 use Rattle.fk_law.proofs.Settled.{reached}
+use Rattle.fk_law.proofs.Numbers.{itself}
 use Rattle.fk_law_watch.proofs.Counting.{pushes_are_bounded, sends_are_bounded}
 use Rattle.fk_law_watch.proofs.SetWatches.{given_are_bounded}
 use Rattle.fk_agree.proofs.Bounds.{is_number as is_limited, lane_low}
-use Rattle.fk_agree.proofs.Writing.{same_number}
 use Rattle.fk_agree.proofs.Serving.{lane_is, session_there}
 use Rattle.fk_agree_lead.specs.Leaders.{IsLeader, LeaderIsFit}
 use Rattle.fk_agree_lead.proofs.Given.{in_hand_was_given}
@@ -31,7 +31,7 @@ use Rattle.fk_agree_lead.proofs.Pushed.{HasPush, its_push, lead_task}
 -- the numbers of these watches are within the limits of messages
 fired_limited : (g l : ℕ) (fs : List Firing) → l < 2 ^ 62 → g ≤ l → ((id : ℕ) → contains id (ids_of fs) ≡ true → id ≤ g) → AreLimitedFired (map fired_as fs)
 fired_limited g l [] b c a = tt
-fired_limited g l (f ∷ fs) b c a = (let x = a f.watch.id (ap (λ z. z || contains f.watch.id (ids_of fs)) (same_number f.watch.id)) in is_limited f.watch.id l b (omega (arith, c, x)), fired_limited g l fs b c (λ id e. a id (later (f.watch.id == id) (contains id (ids_of fs)) e)))
+fired_limited g l (f ∷ fs) b c a = (let x = a f.watch.id (ap (λ z. z || contains f.watch.id (ids_of fs)) (itself f.watch.id)) in is_limited f.watch.id l b (omega (arith, c, x)), fired_limited g l fs b c (λ id e. a id (later (f.watch.id == id) (contains id (ids_of fs)) e)))
   where
     later : (x y : Bool) → y ≡ true → (x || y) ≡ true
     later true y e = refl

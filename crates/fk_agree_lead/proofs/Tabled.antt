@@ -10,7 +10,6 @@ use Rattle.fk_settle.specs.Transaction.{commit_writes, transacted, written_unles
 use Rattle.fk_store.specs.Conds.{Miss, found_at, session_of}
 use Rattle.fk_store.specs.Meaning as table
 use Rattle.fk_store.specs.Writes.{all_written}
-use Rattle.fk_store.specs.Meaning.{lock_of}
 use Rattle.fk_store.specs.declared.cond.Cond.TheVariants as cond
 use Rattle.fk_user.specs.Meaning as user
 use Rattle.fk_watch.specs.Meaning as watches

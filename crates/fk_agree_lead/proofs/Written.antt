@@ -1,11 +1,10 @@
 -- What the services hold after a leader's operation, or after its fault, and the lines that it prints.
 use Rattle.std.specs.Prelude.{nat_lt, if◌then◌else◌, length}
-use Rattle.std.proofs.Common.{◌≡◌, ℕ, Bool, true, false, cond, List, [], ◌∷◌, refl, sym, ◌∙◌, ap, subst}
+use Rattle.std.proofs.Common.{◌≡◌, ℕ, Bool, true, false, List, [], ◌∷◌, refl, sym, ◌∙◌, ap, subst}
 use Rattle.fk_base.specs.Faults.{one_more}
-use Rattle.fk_base.specs.Path.{PathNames, same_path}
+use Rattle.fk_base.specs.Path.{PathNames}
 use Rattle.fk_tree.specs.Edit.{effects}
 use Rattle.fk_tree.specs.Touch.{edits_at}
-use Rattle.fk_tree.specs.declared.edit.Edit.{Edit}
 use Rattle.fk_print.specs.declared.entry.Entry.{Entry}
 use Rattle.fk_print.specs.declared.line.Line.TheVariants as line
 use Rattle.fk_print.specs.declared.op.Op.{Op}
@@ -14,9 +13,8 @@ use Rattle.fk_queue.specs.Meaning as post
 use Rattle.fk_store.specs.Meaning as table
 use Rattle.fk_user.specs.Meaning as user
 use Rattle.fk_user.specs.Meaning.{published, with_put}
-use Rattle.fk_user.specs.Own.{own_edits}
 use Rattle.fk_watch.specs.Meaning as watches
-use Rattle.fk_lead.specs.Meaning.{Meaning, Swept, applied_of, edits_of}
+use Rattle.fk_lead.specs.Meaning.{Meaning, Swept, edits_of}
 use Rattle.fk_lead.specs.Operation.{calm_op}
 use Rattle.fk_lead.specs.Services.{post_after_step, stage_post, stage_table, stage_user, stage_watches, table_after_step, user_after_step, watches_after_step}
 use Rattle.fk_stand.specs.Posts.{post_after}
@@ -33,9 +31,9 @@ use Rattle.fk_spec.specs.Next.{IsHistory, next_lines, printed_of, tx_lines}
 use Rattle.fk_law.proofs.Leading.{leader_stands_where_it_may}
 use Rattle.fk_agree.specs.Stored.{LeavesStore}
 use Rattle.fk_agree.specs.Watched.{LeavesWatches}
-use Rattle.fk_agree.proofs.Putting.{publication_is_written, put_is_written, store_stays}
+use Rattle.fk_agree.proofs.Putting.{publication_is_written, put_is_written}
 use Rattle.fk_agree.proofs.Serving.{fault_leaves, post_stands, services_stay, store_stands, table_stands, watches_stand}
-use Rattle.fk_agree.proofs.Watching.{watches_stay}
+use Rattle.fk_agree.proofs.Held.{left_store, left_watches}
 use Rattle.fk_agree_lead.specs.Leaders.{IsLeader, LeaderFaultIsWritten, LeaderIsWritten, LeaderPrintsItsLines, printed_at}
 use Rattle.fk_agree_lead.proofs.Making.{May, calm_leader, leader_faults, may, sweep_leaves}
 use Rattle.fk_agree_lead.proofs.Posted.{post_case}
@@ -44,23 +42,14 @@ use Rattle.fk_agree_lead.proofs.Tabled.{table_case}
 
 -- The user storage. -------------------------------------------------------------------------------------
 
--- the edits of one path, as the storage and as the tree choose them
-own_the_same : (path : PathNames) (es : List Edit) → own_edits path es ≡ edits_at path es
-own_the_same path [] = refl
-own_the_same path (x ∷ es) = ap (λ ys. cond (same_path path x.path) (x ∷ ys) ys) (own_the_same path es)
-
-store_left : (p : Plan) (faults : ℕ) (e : Entry) (h : List Entry) (o : Op) → IsHistory p (e ∷ h) → e.op ≡ o → LeavesStore o → store_after p h faults ≡ store_after p (e ∷ h) faults
-store_left p faults e h o l g k = sym (store_stays p faults e h l (subst LeavesStore (sym g) k))
-
 -- a put writes where the record has an earlier stamp
 put_leaves : (p : Plan) (faults : ℕ) (e : Entry) (h : List Entry) (m : Meaning) (path : PathNames) → IsHistory p (e ∷ h) → HasCommit p h m → e.op ≡ (if nat_lt (stamp_of path h) m.tx then op.PutOk m.inv m.tx path else op.PutMiss m.inv m.tx path (stamp_of path h)) → (if nat_lt (stamp_of path h) m.tx then with_put (store_after p h faults) path m.tx m.message.moment (edits_of path m) else store_after p h faults) ≡ store_after p (e ∷ h) faults
 put_leaves p faults e h m path l c g = by_less (nat_lt (stamp_of path h) m.tx) g
   where
     by_less : (b : Bool) → e.op ≡ (if b then op.PutOk m.inv m.tx path else op.PutMiss m.inv m.tx path (stamp_of path h)) → (if b then with_put (store_after p h faults) path m.tx m.message.moment (edits_of path m) else store_after p h faults) ≡ store_after p (e ∷ h) faults
     by_less true f =
-        ap (with_put (store_after p h faults) path m.tx m.message.moment) (own_the_same path (effects (applied_of m)))
-        ∙ (ap (λ a. with_put (store_after p h faults) path m.tx a.moment (edits_at path (effects a))) c.same ∙ put_is_written p m.inv m.tx faults path e h c.applied l f c.committed)
-    by_less false f = store_left p faults e h (op.PutMiss m.inv m.tx path (stamp_of path h)) l f tt
+        ap (λ a. with_put (store_after p h faults) path m.tx a.moment (edits_at path (effects a))) c.same ∙ put_is_written p m.inv m.tx faults path e h c.applied l f c.committed
+    by_less false f = left_store p faults e h (op.PutMiss m.inv m.tx path (stamp_of path h)) l f tt
 
 -- a publication writes where the mark is before it
 publish_leaves : (p : Plan) (n faults : ℕ) (e : Entry) (h : List Entry) (m : Meaning) → IsHistory p (e ∷ h) → IsLeader p n h m → e.op ≡ (if nat_lt (mark_of h) m.tx then op.PublishOk m.inv m.tx else op.PublishMiss m.inv m.tx (mark_of h)) → (if nat_lt (mark_of h) m.tx then published (store_after p h faults) m.tx m.swept.epoch else store_after p h faults) ≡ store_after p (e ∷ h) faults
@@ -71,40 +60,37 @@ publish_leaves p n faults e h m l i g = by_less (nat_lt (mark_of h) m.tx) g
 
     by_less : (b : Bool) → e.op ≡ (if b then op.PublishOk m.inv m.tx else op.PublishMiss m.inv m.tx (mark_of h)) → (if b then published (store_after p h faults) m.tx m.swept.epoch else store_after p h faults) ≡ store_after p (e ∷ h) faults
     by_less true f = ap (published (store_after p h faults) m.tx) (epoch f) ∙ publication_is_written p m.inv m.tx faults e h l f
-    by_less false f = store_left p faults e h (op.PublishMiss m.inv m.tx (mark_of h)) l f tt
+    by_less false f = left_store p faults e h (op.PublishMiss m.inv m.tx (mark_of h)) l f tt
 
 -- the user storage after each operation
 store_case : (p : Plan) (n faults : ℕ) (e : Entry) (h : List Entry) (m : Meaning) (t : table.Meaning) (q : post.Meaning) (w : watches.Watches) (s : Swept) (x : Stage) → IsHistory p (e ∷ h) → IsLeader p n h m → place_of p n h ≡ Leading m.tx x → e.op ≡ calm_op t q w (store_after p h faults) s m x → stage_user (store_after p h faults) m x ≡ store_after p (e ∷ h) faults
-store_case p n faults e h m t q w s leader.Commit l i b g = store_left p faults e h (calm_op t q w (store_after p h faults) s m leader.Commit) l g (may LeavesStore t q w (store_after p h faults) s m leader.Commit (tt, (λ a. tt), (λ path a b. tt)))
-store_case p n faults e h m t q w s leader.Pending l i b g = store_left p faults e h (calm_op t q w (store_after p h faults) s m leader.Pending) l g (may LeavesStore t q w (store_after p h faults) s m leader.Pending (tt, tt))
-store_case p n faults e h m t q w s leader.Drop l i b g = store_left p faults e h (calm_op t q w (store_after p h faults) s m leader.Drop) l g (may LeavesStore t q w (store_after p h faults) s m leader.Drop (tt, (λ a. tt)))
-store_case p n faults e h m t q w s leader.Sweep l i b g = store_left p faults e h (calm_op t q w (store_after p h faults) s m leader.Sweep) l g (may LeavesStore t q w (store_after p h faults) s m leader.Sweep ((λ a. tt), (λ a b. tt)))
+store_case p n faults e h m t q w s leader.Commit l i b g = left_store p faults e h (calm_op t q w (store_after p h faults) s m leader.Commit) l g (may LeavesStore t q w (store_after p h faults) s m leader.Commit (tt, (λ a. tt), (λ path a b. tt)))
+store_case p n faults e h m t q w s leader.Pending l i b g = left_store p faults e h (calm_op t q w (store_after p h faults) s m leader.Pending) l g (may LeavesStore t q w (store_after p h faults) s m leader.Pending (tt, tt))
+store_case p n faults e h m t q w s leader.Drop l i b g = left_store p faults e h (calm_op t q w (store_after p h faults) s m leader.Drop) l g (may LeavesStore t q w (store_after p h faults) s m leader.Drop (tt, (λ a. tt)))
+store_case p n faults e h m t q w s leader.Sweep l i b g = left_store p faults e h (calm_op t q w (store_after p h faults) s m leader.Sweep) l g (may LeavesStore t q w (store_after p h faults) s m leader.Sweep ((λ a. tt), (λ a b. tt)))
 store_case p n faults e h m t q w s (leader.Put path others) l i b g = put_leaves p faults e h m path l (its_commit p n h m l.0 i (leader_stands_where_it_may p n m.tx (leader.Put path others) h l.0 b).0) g
 store_case p n faults e h m t q w s leader.Publish l i b g = publish_leaves p n faults e h m l i g
-store_case p n faults e h m t q w s leader.Notify l i b g = store_left p faults e h (calm_op t q w (store_after p h faults) s m leader.Notify) l g (may LeavesStore t q w (store_after p h faults) s m leader.Notify (λ a. tt))
-store_case p n faults e h m t q w s leader.Reply l i b g = store_left p faults e h (calm_op t q w (store_after p h faults) s m leader.Reply) l g (may LeavesStore t q w (store_after p h faults) s m leader.Reply tt)
-store_case p n faults e h m t q w s leader.Done l i b g = store_left p faults e h (calm_op t q w (store_after p h faults) s m leader.Done) l g (may LeavesStore t q w (store_after p h faults) s m leader.Done (tt, (λ a. tt)))
-store_case p n faults e h m t q w s leader.Ack l i b g = store_left p faults e h (calm_op t q w (store_after p h faults) s m leader.Ack) l g (may LeavesStore t q w (store_after p h faults) s m leader.Ack (tt, tt))
-store_case p n faults e h m t q w s leader.Ended l i b g = store_left p faults e h (calm_op t q w (store_after p h faults) s m leader.Ended) l g (may LeavesStore t q w (store_after p h faults) s m leader.Ended tt)
+store_case p n faults e h m t q w s leader.Notify l i b g = left_store p faults e h (calm_op t q w (store_after p h faults) s m leader.Notify) l g (may LeavesStore t q w (store_after p h faults) s m leader.Notify (λ a. tt))
+store_case p n faults e h m t q w s leader.Reply l i b g = left_store p faults e h (calm_op t q w (store_after p h faults) s m leader.Reply) l g (may LeavesStore t q w (store_after p h faults) s m leader.Reply tt)
+store_case p n faults e h m t q w s leader.Done l i b g = left_store p faults e h (calm_op t q w (store_after p h faults) s m leader.Done) l g (may LeavesStore t q w (store_after p h faults) s m leader.Done (tt, (λ a. tt)))
+store_case p n faults e h m t q w s leader.Ack l i b g = left_store p faults e h (calm_op t q w (store_after p h faults) s m leader.Ack) l g (may LeavesStore t q w (store_after p h faults) s m leader.Ack (tt, tt))
+store_case p n faults e h m t q w s leader.Ended l i b g = left_store p faults e h (calm_op t q w (store_after p h faults) s m leader.Ended) l g (may LeavesStore t q w (store_after p h faults) s m leader.Ended tt)
 
 -- The table of watches. ---------------------------------------------------------------------------------
 
-watches_left : (p : Plan) (faults : ℕ) (e : Entry) (h : List Entry) (o : Op) → e.op ≡ o → LeavesWatches o → watches_after p h faults ≡ watches_after p (e ∷ h) faults
-watches_left p faults e h o g k = sym (watches_stay p faults e h (subst LeavesWatches (sym g) k))
-
 -- the table of watches after each operation
 watches_case : (p : Plan) (n faults : ℕ) (e : Entry) (h : List Entry) (m : Meaning) (t : table.Meaning) (q : post.Meaning) (u : user.Meaning) (s : Swept) (x : Stage) → IsHistory p (e ∷ h) → IsLeader p n h m → place_of p n h ≡ Leading m.tx x → e.op ≡ calm_op t q (watches_after p h faults) u s m x → stage_watches (watches_after p h faults) m x ≡ watches_after p (e ∷ h) faults
-watches_case p n faults e h m t q u s leader.Commit l i b g = watches_left p faults e h (calm_op t q (watches_after p h faults) u s m leader.Commit) g (may LeavesWatches t q (watches_after p h faults) u s m leader.Commit (tt, (λ a. tt), (λ path a b. tt)))
-watches_case p n faults e h m t q u s leader.Pending l i b g = watches_left p faults e h (calm_op t q (watches_after p h faults) u s m leader.Pending) g (may LeavesWatches t q (watches_after p h faults) u s m leader.Pending (tt, tt))
-watches_case p n faults e h m t q u s leader.Drop l i b g = watches_left p faults e h (calm_op t q (watches_after p h faults) u s m leader.Drop) g (may LeavesWatches t q (watches_after p h faults) u s m leader.Drop (tt, (λ a. tt)))
+watches_case p n faults e h m t q u s leader.Commit l i b g = left_watches p faults e h (calm_op t q (watches_after p h faults) u s m leader.Commit) g (may LeavesWatches t q (watches_after p h faults) u s m leader.Commit (tt, (λ a. tt), (λ path a b. tt)))
+watches_case p n faults e h m t q u s leader.Pending l i b g = left_watches p faults e h (calm_op t q (watches_after p h faults) u s m leader.Pending) g (may LeavesWatches t q (watches_after p h faults) u s m leader.Pending (tt, tt))
+watches_case p n faults e h m t q u s leader.Drop l i b g = left_watches p faults e h (calm_op t q (watches_after p h faults) u s m leader.Drop) g (may LeavesWatches t q (watches_after p h faults) u s m leader.Drop (tt, (λ a. tt)))
 watches_case p n faults e h m t q u s leader.Sweep l i b g = sweep_leaves p m.inv (length s.fired) (length s.fired) faults e h m l (its_commit p n h m l.0 i (leader_stands_where_it_may p n m.tx leader.Sweep h l.0 b)) g
-watches_case p n faults e h m t q u s (leader.Put path others) l i b g = watches_left p faults e h (calm_op t q (watches_after p h faults) u s m (leader.Put path others)) g (may LeavesWatches t q (watches_after p h faults) u s m (leader.Put path others) (tt, (λ a. tt)))
-watches_case p n faults e h m t q u s leader.Publish l i b g = watches_left p faults e h (calm_op t q (watches_after p h faults) u s m leader.Publish) g (may LeavesWatches t q (watches_after p h faults) u s m leader.Publish (tt, (λ a. tt)))
-watches_case p n faults e h m t q u s leader.Notify l i b g = watches_left p faults e h (calm_op t q (watches_after p h faults) u s m leader.Notify) g (may LeavesWatches t q (watches_after p h faults) u s m leader.Notify (λ a. tt))
-watches_case p n faults e h m t q u s leader.Reply l i b g = watches_left p faults e h (calm_op t q (watches_after p h faults) u s m leader.Reply) g (may LeavesWatches t q (watches_after p h faults) u s m leader.Reply tt)
-watches_case p n faults e h m t q u s leader.Done l i b g = watches_left p faults e h (calm_op t q (watches_after p h faults) u s m leader.Done) g (may LeavesWatches t q (watches_after p h faults) u s m leader.Done (tt, (λ a. tt)))
-watches_case p n faults e h m t q u s leader.Ack l i b g = watches_left p faults e h (calm_op t q (watches_after p h faults) u s m leader.Ack) g (may LeavesWatches t q (watches_after p h faults) u s m leader.Ack (tt, tt))
-watches_case p n faults e h m t q u s leader.Ended l i b g = watches_left p faults e h (calm_op t q (watches_after p h faults) u s m leader.Ended) g (may LeavesWatches t q (watches_after p h faults) u s m leader.Ended tt)
+watches_case p n faults e h m t q u s (leader.Put path others) l i b g = left_watches p faults e h (calm_op t q (watches_after p h faults) u s m (leader.Put path others)) g (may LeavesWatches t q (watches_after p h faults) u s m (leader.Put path others) (tt, (λ a. tt)))
+watches_case p n faults e h m t q u s leader.Publish l i b g = left_watches p faults e h (calm_op t q (watches_after p h faults) u s m leader.Publish) g (may LeavesWatches t q (watches_after p h faults) u s m leader.Publish (tt, (λ a. tt)))
+watches_case p n faults e h m t q u s leader.Notify l i b g = left_watches p faults e h (calm_op t q (watches_after p h faults) u s m leader.Notify) g (may LeavesWatches t q (watches_after p h faults) u s m leader.Notify (λ a. tt))
+watches_case p n faults e h m t q u s leader.Reply l i b g = left_watches p faults e h (calm_op t q (watches_after p h faults) u s m leader.Reply) g (may LeavesWatches t q (watches_after p h faults) u s m leader.Reply tt)
+watches_case p n faults e h m t q u s leader.Done l i b g = left_watches p faults e h (calm_op t q (watches_after p h faults) u s m leader.Done) g (may LeavesWatches t q (watches_after p h faults) u s m leader.Done (tt, (λ a. tt)))
+watches_case p n faults e h m t q u s leader.Ack l i b g = left_watches p faults e h (calm_op t q (watches_after p h faults) u s m leader.Ack) g (may LeavesWatches t q (watches_after p h faults) u s m leader.Ack (tt, tt))
+watches_case p n faults e h m t q u s leader.Ended l i b g = left_watches p faults e h (calm_op t q (watches_after p h faults) u s m leader.Ended) g (may LeavesWatches t q (watches_after p h faults) u s m leader.Ended tt)
 
 -- All of them. ------------------------------------------------------------------------------------------
 

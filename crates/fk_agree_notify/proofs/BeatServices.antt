@@ -18,7 +18,7 @@ use Rattle.fk_store.specs.Meaning as table
 use Rattle.fk_store.specs.declared.cond.Cond.TheVariants as cond
 use Rattle.fk_store.specs.declared.session_record.SessionRecord.{SessionRecord}
 use Rattle.fk_watch.specs.Beating as beating
-use Rattle.fk_watch.specs.Beating.{Meaning, calm_op, evict_sent, note_conds, note_writes, post_after_step, stage_post, stage_table, step_op, table_after_step}
+use Rattle.fk_watch.specs.Beating.{Meaning, calm_op, evict_sent, note_conds, note_writes, post_after_step, stage_post, stage_table, table_after_step}
 use Rattle.fk_wire.specs.SentText.{sent_text}
 use Rattle.fk_wire.specs.TellText.{tell_text}
 use Rattle.fk_wire.specs.declared.message.Tell.TheVariants as tell
@@ -38,11 +38,11 @@ use Rattle.fk_agree.specs.Records.{LeavesRecords}
 use Rattle.fk_agree.specs.Stored.{LeavesStore}
 use Rattle.fk_agree.specs.Watched.{LeavesWatches}
 use Rattle.fk_agree.proofs.Finishing.{ping_is_written}
-use Rattle.fk_agree.proofs.Granting.{records_stay}
 use Rattle.fk_agree.proofs.Posting.{letter_is_pushed}
 use Rattle.fk_agree.proofs.Putting.{store_stays}
 use Rattle.fk_agree.proofs.Serving.{LeavesPost, fault_leaves, other_number, post_left, post_stands, services_stay, table_stands}
 use Rattle.fk_agree.proofs.Watching.{watches_stay}
+use Rattle.fk_agree.proofs.Held.{left_table}
 use Rattle.fk_agree_notify.specs.Beats.{BeatFaultIsWritten, BeatIsWritten}
 use Rattle.fk_agree_notify.proofs.Beating.{beat_faults, beat_task, beats_client, calm_beat}
 
@@ -75,9 +75,6 @@ spares t q now beat m heartbeat.Evict = (tt, tt)
 spares t q now beat m heartbeat.Ended = (tt, tt)
 
 -- The table. --------------------------------------------------------------------------------------------
-
-left_table : (p : Plan) (faults : ℕ) (e : Entry) (h : List Entry) (o : Op) → e.op ≡ o → LeavesRecords o → table_after p h faults ≡ table_after p (e ∷ h) faults
-left_table p faults e h o g k = sym (records_stay p faults e h (subst LeavesRecords (sym g) k))
 
 noted_table : (p : Plan) (n c faults : ℕ) (e : Entry) (h : List Entry) → is_client p c ≡ true → task_of n h ≡ Some (Probes c) → e.op ≡ beating.note_op n (session_of (table_after p h faults) c) → transacted (note_conds n c) (note_writes n c (clock_of h)) (table_after p h faults) ≡ table_after p (e ∷ h) faults
 noted_table p n c faults e h k t g = by_ping (nat_lt (session_of (table_after p h faults) c).ping n) refl g

@@ -13,7 +13,7 @@ use Rattle.fk_store.specs.Conds.{session_of}
 use Rattle.fk_store.specs.Meaning as table
 use Rattle.fk_store.specs.declared.session_record.SessionRecord.{SessionRecord}
 use Rattle.fk_watch.specs.Beating as beating
-use Rattle.fk_watch.specs.Beating.{Meaning, calm_op, going_to, is_armed, is_end, is_ended, started, step_op}
+use Rattle.fk_watch.specs.Beating.{Meaning, calm_op, going_to, is_armed, is_end, is_ended, step_op}
 use Rattle.fk_watch.specs.BeatingFit.{IsFit}
 use Rattle.fk_stand.specs.Tables.{session_record}
 use Rattle.fk_spec.specs.Plan.{Plan, is_client}
@@ -30,7 +30,7 @@ use Rattle.fk_law.proofs.Clients.{probes_client}
 use Rattle.fk_law.proofs.Starting.{others_leave_it, own_operation_moves_it, place_bound, place_for, start_places_it}
 use Rattle.fk_law_watch.proofs.Counting.{starts_are_bounded}
 use Rattle.fk_agree.proofs.Counting.{lanes_are_counted}
-use Rattle.fk_agree.proofs.Serving.{lane_is, session_is, session_there}
+use Rattle.fk_agree.proofs.Serving.{lane_is, session_is, session_there, IsOf}
 use Rattle.fk_agree_notify.specs.Beats.{BeatFails, BeatGoesOn, BeatIsFit, BeatMakesItsOperation, BeatStarts, IsBeat, OthersLeaveBeats}
 use Rattle.fk_agree.specs.Ends.{HasEnded}
 use Rattle.fk_agree.proofs.Bounds.{is_number as is_limited, lane_low}
@@ -83,10 +83,6 @@ pub beat_fails : BeatFails
 beat_fails p n now beat h m t q i = beat_faults t q now beat m i.going ∙ (ap (λ z. op.Fault z (beat_word m.stage)) i.inv ∙ sym (ap (fault_op n) i.stands))
 
 -- It goes on. -------------------------------------------------------------------------------------------
-
--- the operation of function n
-abbrev IsOf : ℕ → Op → Type 0
-IsOf n o = actor o ≡ Some n
 
 late_of : (n beat now : ℕ) (x : Noted) → IsOf n (unanswered_op n beat now x)
 late_of n beat now x = by_test (nat_lt (x.moment + beat) now) (λ b. IsOf n (if b then op.ProbeLate n x.ping x.moment else op.ProbeWaiting n)) (λ _. refl) (λ _. refl)

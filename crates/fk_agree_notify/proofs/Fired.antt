@@ -17,9 +17,9 @@ use Rattle.fk_spec.specs.Teller.{Note, Stage, next_teller, note_of, to_tell}
 use Rattle.fk_spec.specs.Teller as teller
 use Rattle.fk_spec.specs.Watches.{Firing, Watch, firing_in, firing_of, firing_with, firings, has_id, kept_unless, not_fired, set_after, set_watches, touches_of_push, watch_asked, watch_wanted, with_watch}
 use Rattle.fk_spec.specs.Next.{IsHistory}
+use Rattle.fk_spec.specs.WatchNumbers.{watch_with}
 use Rattle.fk_law.proofs.Clients.{none_asked}
 use Rattle.fk_law_watch.specs.Noting.{fired_at, fired_at_in}
-use Rattle.fk_law_watch.specs.SetWatches.{watch_with}
 use Rattle.fk_law_watch.proofs.Handing.{note_tells_what_its_push_fired}
 use Rattle.fk_law_watch.proofs.Listing.{fired_of}
 use Rattle.fk_law_watch.proofs.Noting.{OnTeller, fired_of_a_push, teller_step}

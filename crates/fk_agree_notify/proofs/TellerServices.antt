@@ -8,7 +8,7 @@ use Rattle.fk_print.specs.declared.op.Op.TheVariants as op
 use Rattle.fk_queue.specs.Lanes.{same_lane}
 use Rattle.fk_queue.specs.Letters.{head_number}
 use Rattle.fk_queue.specs.Meaning as post
-use Rattle.fk_queue.specs.Meaning.{popped, pushed}
+use Rattle.fk_queue.specs.Meaning.{pushed}
 use Rattle.fk_queue.specs.declared.lane.Lane.{Lane}
 use Rattle.fk_queue.specs.declared.lane.Lane.TheVariants as lane
 use Rattle.fk_watch.specs.Meaning as watches

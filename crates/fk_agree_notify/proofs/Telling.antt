@@ -30,6 +30,7 @@ use Rattle.fk_spec.specs.Teller as teller
 use Rattle.fk_spec.specs.Teller.{Stage, next_teller, note_of, teller_op, to_tell}
 use Rattle.fk_spec.specs.Watches.{Firing, firing_of}
 use Rattle.fk_spec.specs.Next.{IsHistory}
+use Rattle.fk_watch.proofs.TellingSteps.{going as begins_going}
 use Rattle.fk_law.specs.Due.{IsDue}
 use Rattle.fk_law.proofs.Due.{due}
 use Rattle.fk_law.proofs.Starting.{others_leave_it, own_operation_moves_it, start_places_it}
@@ -120,14 +121,10 @@ listed_back : (p : Plan) (h : List Entry) (t : ℕ) (fs : List Firing) → AllFi
 listed_back p h t [] i = refl
 listed_back p h t (f ∷ fs) i = λ j. record { watch = f.watch; tx = (sym i.0.1) j; change = f.change } ∷ (listed_back p h t fs i.1) j
 
-begin_going : (fs : List Firing) → is_end (to_tell fs) ≡ false
-begin_going [] = refl
-begin_going (f ∷ fs) = refl
-
 starts_on : (p : Plan) (n w : ℕ) (e : Entry) (h : List Entry) (y : teller.Note) → IsHistory p (e ∷ h) → e.op ≡ op.Teller n w → note_of p w h ≡ Some y → IsTeller p n (e ∷ h) (started n w (note_as y))
 starts_on p n w e h y l g a = record {
   inv = refl;
-  going = begin_going (firings_as y.tx (map fired_as y.fired));
+  going = begins_going (firings_as y.tx (map fired_as y.fired));
   stands =
       start_places_it p e h (record { function = n; task = Notifies w }) (ap started_in g)
       ∙ (ap (telling w) a ∙ ap (λ fs. Telling w y.tx (to_tell fs)) (sym (listed_back p h y.tx y.fired (note_all p w h y l.0 a))));

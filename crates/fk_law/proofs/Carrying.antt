@@ -9,14 +9,14 @@ use Rattle.fk_tree.specs.Sorted.{has_path}
 use Rattle.fk_tree.specs.declared.applied.Applied.{Applied}
 use Rattle.fk_tree.specs.declared.request.Request.{Request}
 use Rattle.fk_tree.specs.declared.request.Request.TheVariants as request
+use Rattle.fk_tree.specs.Rows.{is_of}
 use Rattle.fk_tree.proofs.Order.{by_test}
+use Rattle.fk_tree.proofs.Looking.{same_flip}
 use Rattle.fk_print.specs.declared.entry.Entry.{Entry}
 use Rattle.fk_print.specs.declared.op.Op.{Op}
 use Rattle.fk_print.specs.declared.op.Op.TheVariants as op
 use Rattle.fk_law_tree.specs.Locking.{ListsOwned}
-use Rattle.fk_law_tree.specs.Owners.{is_owned}
 use Rattle.fk_law_tree.proofs.Holding.{fits_by_its_edits}
-use Rattle.fk_law_tree.proofs.Members.{flipped}
 use Rattle.fk_spec.specs.Plan.{Plan}
 use Rattle.fk_spec.specs.Start.{Pushed, pushed_of}
 use Rattle.fk_spec.specs.Locks.{granted}
@@ -43,18 +43,18 @@ use Rattle.fk_law.proofs.Editing.{one_applied}
 -- A follower's own filling. ---------------------------------------------------------------------------
 
 -- what a record shows as owned is of a granted path
-pub owned_is_granted : (c : ℕ) (gs : List Granted) (q : PathNames) → is_owned c (node_in gs q) ≡ true → has_path q (paths_of gs) ≡ true
+pub owned_is_granted : (c : ℕ) (gs : List Granted) (q : PathNames) → is_of c (node_in gs q) ≡ true → has_path q (paths_of gs) ≡ true
 owned_is_granted c [] q i = absurd (false≢true i)
-owned_is_granted c (g ∷ gs) q i = by_test (same_path q g.path) (λ b. (b || has_path q (paths_of gs)) ≡ true) (λ _. refl) (λ e. owned_is_granted c gs q (later (sym (flipped q g.path) ∙ e) i))
+owned_is_granted c (g ∷ gs) q i = by_test (same_path q g.path) (λ b. (b || has_path q (paths_of gs)) ≡ true) (λ _. refl) (λ e. owned_is_granted c gs q (later (sym (same_flip q g.path) ∙ e) i))
   where
-    later : same_path g.path q ≡ false → is_owned c (node_in (g ∷ gs) q) ≡ true → is_owned c (node_in gs q) ≡ true
+    later : same_path g.path q ≡ false → is_of c (node_in (g ∷ gs) q) ≡ true → is_of c (node_in gs q) ≡ true
     later e i = sym (rw e refl) ∙ i
 
 shown_lists : (c : ℕ) (gs : List Granted) (done : List Applied) (r : Request) → c ≢ 0 → ((q : PathNames) → has_path q (paths_of gs) ≡ true → node_in gs q ≡ (view_after done).node q) → ListsOwned (view_of gs) c r (gone_after c done r)
 shown_lists c gs done (request.Create path bytes seq eph) z a = tt
 shown_lists c gs done (request.Set path bytes version) z a = tt
 shown_lists c gs done (request.Delete path version) z a = tt
-shown_lists c gs done (request.Close evict) z a = λ q i. owned_has c done q z ∙ (ap (is_owned c) (sym (a q (owned_is_granted c gs q i))) ∙ i)
+shown_lists c gs done (request.Close evict) z a = λ q i. owned_has c done q z ∙ (ap (is_of c) (sym (a q (owned_is_granted c gs q i))) ∙ i)
 shown_lists c gs done (request.Multi xs) z a = tt
 
 pub follower_fills_the_same : FollowerFillsTheSame

@@ -9,11 +9,11 @@ use Rattle.fk_tree.specs.View.{View}
 use Rattle.fk_tree.specs.declared.applied.Applied.{Applied}
 use Rattle.fk_tree.specs.declared.request.Request.{Request}
 use Rattle.fk_tree.specs.declared.request.Request.TheVariants as request
+use Rattle.fk_tree.specs.Rows.{is_of}
 use Rattle.fk_print.specs.declared.entry.Entry.{Entry}
 use Rattle.fk_print.specs.declared.op.Op.{Op}
 use Rattle.fk_print.specs.declared.op.Op.TheVariants as op
 use Rattle.fk_law_tree.specs.Locking.{ListsOwned}
-use Rattle.fk_law_tree.specs.Owners.{is_owned}
 use Rattle.fk_law_tree.proofs.Owning.{keeps_foreign_owners, close_leaves_none}
 use Rattle.fk_spec.specs.Plan.{Plan}
 use Rattle.fk_spec.specs.Start.{Push, Pushed, pushed_of, push_of, push_here, pushed_in, clock_of, pushes_of, count_push, or_else}
@@ -41,7 +41,7 @@ later_numbers_leave p n h l = (λ q v. node_counts n q (committed_of p h) (commi
 
 -- Numbers of commits. ---------------------------------------------------------------------------------
 
-count_more : (o : Option Push) (n : ℕ) → n ≤ count_push o n
+pub count_more : (o : Option Push) (n : ℕ) → n ≤ count_push o n
 count_more o n = grind arith
 
 pushed_step : (p : Plan) (e : Entry) (h : List Entry) (o : Op) → IsHistory p h → IsDue p h o → AllAtMost (pushes_of h) (committed_of p h) → AllAtMost (pushes_of h) (committed_in p h o (committed_of p h))
@@ -57,7 +57,7 @@ commits_were_pushed p (e ∷ h) l = more_at_most (pushes_of h) (pushes_of (e ∷
 
 -- What a live close lists. ----------------------------------------------------------------------------
 
-lists_less : (v w : View) (c : ℕ) (r : Request) (gone : List PathNames) → ((q : PathNames) → is_owned c (w.node q) ≡ true → is_owned c (v.node q) ≡ true) → ListsOwned v c r gone → ListsOwned w c r gone
+lists_less : (v w : View) (c : ℕ) (r : Request) (gone : List PathNames) → ((q : PathNames) → is_of c (w.node q) ≡ true → is_of c (v.node q) ≡ true) → ListsOwned v c r gone → ListsOwned w c r gone
 lists_less v w c (request.Create path bytes seq eph) gone f i = tt
 lists_less v w c (request.Set path bytes version) gone f i = tt
 lists_less v w c (request.Delete path version) gone f i = tt
@@ -140,9 +140,9 @@ commit_fits_at_its_number p n t h a l q e = let f = fits_before (committed_of p 
 
 -- Closed sessions. ------------------------------------------------------------------------------------
 
-owns_step : (p : Plan) (c : ℕ) (h : List Entry) (q : PathNames) (o : Op) → IsHistory p h → IsDue p h o → c ≢ 0 → ((stored_view p h).closed c ≡ true → is_owned c ((stored_view p h).node q) ≡ false)
-    → (view_after (committed_in p h o (committed_of p h))).closed c ≡ true → is_owned c ((view_after (committed_in p h o (committed_of p h))).node q) ≡ false
-owns_step p c h q (op.CommitOk a t) l d z i = subst (λ v. (view_after (with_filled (committed_of p h) t v)).closed c ≡ true → is_owned c ((view_after (with_filled (committed_of p h) t v)).node q) ≡ false) (sym x.is) (by_session (nat_eq x.pushed.session c) refl)
+owns_step : (p : Plan) (c : ℕ) (h : List Entry) (q : PathNames) (o : Op) → IsHistory p h → IsDue p h o → c ≢ 0 → ((stored_view p h).closed c ≡ true → is_of c ((stored_view p h).node q) ≡ false)
+    → (view_after (committed_in p h o (committed_of p h))).closed c ≡ true → is_of c ((view_after (committed_in p h o (committed_of p h))).node q) ≡ false
+owns_step p c h q (op.CommitOk a t) l d z i = subst (λ v. (view_after (with_filled (committed_of p h) t v)).closed c ≡ true → is_of c ((view_after (with_filled (committed_of p h) t v)).node q) ≡ false) (sym x.is) (by_session (nat_eq x.pushed.session c) refl)
   where
     x : IsCommit p t h
     x = commit_is p a t h l d
@@ -155,13 +155,13 @@ owns_step p c h q (op.CommitOk a t) l d z i = subst (λ v. (view_after (with_fil
     refuted false f = refl
 
     -- its own close, as the session was open
-    own : x.pushed.session ≡ c → (b : Bool) → closes A.request ≡ b → (after (stored_view p h) A).closed c ≡ true → is_owned c ((after (stored_view p h) A).node q) ≡ false
-    own s true e v = subst (λ y. is_owned y ((after (stored_view p h) A).node q) ≡ false) s (close_leaves_none (stored_view p h) A q ((seen p h l).pushes t x.live x.pushed x.is).0 e)
+    own : x.pushed.session ≡ c → (b : Bool) → closes A.request ≡ b → (after (stored_view p h) A).closed c ≡ true → is_of c ((after (stored_view p h) A).node q) ≡ false
+    own s true e v = subst (λ y. is_of y ((after (stored_view p h) A).node q) ≡ false) s (close_leaves_none (stored_view p h) A q ((seen p h l).pushes t x.live x.pushed x.is).0 e)
     own s false e v = absurd (false≢true (sym (closed_push p t x.live.function x.live.session x.live.k h l x.live.is_of x.live.next) ∙ (ap (stored_view p h).closed (sym x.session ∙ s) ∙ (rw e refl ∙ v))))
 
-    by_session : (b : Bool) → nat_eq x.pushed.session c ≡ b → (after (stored_view p h) A).closed c ≡ true → is_owned c ((after (stored_view p h) A).node q) ≡ false
+    by_session : (b : Bool) → nat_eq x.pushed.session c ≡ b → (after (stored_view p h) A).closed c ≡ true → is_of c ((after (stored_view p h) A).node q) ≡ false
     by_session true e v = own (grind (arith, nat_tests)) (closes A.request) refl v
-    by_session false e v = refuted (is_owned c ((after (stored_view p h) A).node q)) (λ o. false≢true (sym (i (sym (closed_apart (stored_view p h) A c e) ∙ v)) ∙ keeps_foreign_owners (stored_view p h) A q c z (λ s. other e s) o))
+    by_session false e v = refuted (is_of c ((after (stored_view p h) A).node q)) (λ o. false≢true (sym (i (sym (closed_apart (stored_view p h) A c e) ∙ v)) ∙ keeps_foreign_owners (stored_view p h) A q c z (λ s. other e s) o))
       where
         other : nat_eq x.pushed.session c ≡ false → c ≡ x.pushed.session → ⊥
         other e s = grind (arith, nat_tests)

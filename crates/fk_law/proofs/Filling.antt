@@ -1,6 +1,6 @@
 -- What is filled from the commits, against what they left.
 use Rattle.std.specs.Prelude.{◌&&◌}
-use Rattle.std.proofs.Common.{◌≡◌, ◌≢◌, ℕ, ◌<◌, Bool, true, false, cond, ◌||◌, List, [], ◌∷◌, refl, sym, ◌∙◌, ap, arith, Option, Some, None}
+use Rattle.std.proofs.Common.{◌≡◌, ◌≢◌, ℕ, ◌<◌, Bool, true, false, cond, ◌||◌, List, [], ◌∷◌, refl, sym, ◌∙◌, ap, arith, None}
 use Rattle.std.specs.Ordering.{is_lt}
 use Rattle.std.proofs.lemmas.Bool.{false≢true}
 use Rattle.fk_base.specs.Path.{PathNames, path_cmp, same_path}
@@ -11,49 +11,45 @@ use Rattle.fk_tree.specs.Sorted.{has_path, is_below, rises, in_path_order}
 use Rattle.fk_tree.specs.Touch.{edited_paths}
 use Rattle.fk_tree.specs.View.{View}
 use Rattle.fk_tree.specs.declared.applied.Applied.{Applied}
-use Rattle.fk_tree.specs.declared.node.Node.{Node}
 use Rattle.fk_tree.specs.declared.request.Request.{Request}
 use Rattle.fk_tree.specs.declared.request.Request.TheVariants as request
+use Rattle.fk_tree.specs.Rows.{is_of}
 use Rattle.fk_tree.proofs.Order.{and_left, and_right, by_test, same_path_is}
+use Rattle.fk_tree.proofs.Passing.{passed_open, placed_none}
 use Rattle.fk_law_tree.specs.Editors.{is_edited}
 use Rattle.fk_law_tree.specs.Fitting.{GoneIs, Fits}
 use Rattle.fk_law_tree.specs.Locking.{Within, unlocked, ListsOwned}
-use Rattle.fk_law_tree.specs.Owners.{is_owned}
 use Rattle.fk_law_tree.specs.Reading.{AgreeOn, reads}
 use Rattle.fk_law_tree.proofs.Counting.{owned_was_edited}
 use Rattle.fk_law_tree.proofs.Holding.{edits_are_locked, reads_are_locked, gone_is_owned, locks_read_locked}
 use Rattle.fk_law_tree.proofs.Lists.{ordered_has, ordered_rises}
 use Rattle.fk_law_tree.proofs.Matching.{one_fits}
 use Rattle.fk_law_tree.proofs.Members.{has_append}
-use Rattle.fk_law_tree.proofs.Passing.{passed_open, placed_none, CreatePasses, passed_create}
+use Rattle.fk_law_tree.proofs.Passing.{CreatePasses, passed_create}
 use Rattle.fk_law_tree.proofs.Reading.{check_reads}
 use Rattle.fk_spec.specs.Start.{Pushed}
-use Rattle.fk_spec.specs.Stored.{is_owned_by, owned_among, all_edited, owned_after, gone_after, filled_after}
+use Rattle.fk_spec.specs.Stored.{owned_among, all_edited, owned_after, gone_after, filled_after}
 
 -- The nodes of a session. -----------------------------------------------------------------------------
 
-pub owner_same : (c : ℕ) (o : Option Node) → is_owned_by c o ≡ is_owned c o
-owner_same c None = refl
-owner_same c (Some n) = refl
-
-among_step : (c : ℕ) (v : View) (p q : PathNames) (ps qs : List PathNames) → (same_path q p ≡ true → q ≡ p) → has_path q qs ≡ (is_owned_by c (v.node q) && has_path q ps) → has_path q (cond (is_owned_by c (v.node p)) (p ∷ qs) qs) ≡ (is_owned_by c (v.node q) && (same_path q p || has_path q ps))
-among_step c v p q ps qs s i = by_owner (is_owned_by c (v.node p)) refl (same_path q p) refl
+among_step : (c : ℕ) (v : View) (p q : PathNames) (ps qs : List PathNames) → (same_path q p ≡ true → q ≡ p) → has_path q qs ≡ (is_of c (v.node q) && has_path q ps) → has_path q (cond (is_of c (v.node p)) (p ∷ qs) qs) ≡ (is_of c (v.node q) && (same_path q p || has_path q ps))
+among_step c v p q ps qs s i = by_owner (is_of c (v.node p)) refl (same_path q p) refl
   where
     none : (b : Bool) → false ≡ (b && false)
     none true = refl
     none false = refl
 
-    same : same_path q p ≡ true → is_owned_by c (v.node q) ≡ is_owned_by c (v.node p)
-    same e = ap (λ x. is_owned_by c (v.node x)) (s e)
+    same : same_path q p ≡ true → is_of c (v.node q) ≡ is_of c (v.node p)
+    same e = ap (λ x. is_of c (v.node x)) (s e)
 
-    by_owner : (a : Bool) → is_owned_by c (v.node p) ≡ a → (b : Bool) → same_path q p ≡ b → has_path q (cond a (p ∷ qs) qs) ≡ (is_owned_by c (v.node q) && (b || has_path q ps))
+    by_owner : (a : Bool) → is_of c (v.node p) ≡ a → (b : Bool) → same_path q p ≡ b → has_path q (cond a (p ∷ qs) qs) ≡ (is_of c (v.node q) && (b || has_path q ps))
     by_owner true e true f = rw (f, same f, e) refl
     by_owner true e false f = rw f i
     by_owner false e true f = rw (same f, e) (i ∙ ap (λ z. z && has_path q ps) (same f ∙ e))
     by_owner false e false f = i
 
-pub among_has : (c : ℕ) (v : View) (ps : List PathNames) (q : PathNames) → has_path q (owned_among c v ps) ≡ (is_owned_by c (v.node q) && has_path q ps)
-among_has c v [] q = none (is_owned_by c (v.node q))
+pub among_has : (c : ℕ) (v : View) (ps : List PathNames) (q : PathNames) → has_path q (owned_among c v ps) ≡ (is_of c (v.node q) && has_path q ps)
+among_has c v [] q = none (is_of c (v.node q))
   where
     none : (b : Bool) → false ≡ (b && false)
     none true = refl
@@ -62,21 +58,21 @@ among_has c v (p ∷ ps) q = among_step c v p q ps (owned_among c v ps) (same_pa
 
 among_below : (c : ℕ) (v : View) (ps : List PathNames) (q : PathNames) → is_below path_cmp q ps ≡ true → is_below path_cmp q (owned_among c v ps) ≡ true
 among_below c v [] q b = refl
-among_below c v (p ∷ ps) q b = by_test (is_owned_by c (v.node p)) (λ a. is_below path_cmp q (cond a (p ∷ owned_among c v ps) (owned_among c v ps)) ≡ true) (λ _. rw (and_left (is_lt (path_cmp q p)) (is_below path_cmp q ps) b) (among_below c v ps q (and_right (is_lt (path_cmp q p)) (is_below path_cmp q ps) b))) (λ _. among_below c v ps q (and_right (is_lt (path_cmp q p)) (is_below path_cmp q ps) b))
+among_below c v (p ∷ ps) q b = by_test (is_of c (v.node p)) (λ a. is_below path_cmp q (cond a (p ∷ owned_among c v ps) (owned_among c v ps)) ≡ true) (λ _. rw (and_left (is_lt (path_cmp q p)) (is_below path_cmp q ps) b) (among_below c v ps q (and_right (is_lt (path_cmp q p)) (is_below path_cmp q ps) b))) (λ _. among_below c v ps q (and_right (is_lt (path_cmp q p)) (is_below path_cmp q ps) b))
 
 pub among_rises : (c : ℕ) (v : View) (ps : List PathNames) → rises path_cmp ps ≡ true → rises path_cmp (owned_among c v ps) ≡ true
 among_rises c v [] r = refl
-among_rises c v (p ∷ ps) r = by_test (is_owned_by c (v.node p)) (λ a. rises path_cmp (cond a (p ∷ owned_among c v ps) (owned_among c v ps)) ≡ true) (λ _. rw (among_below c v ps p (and_left (is_below path_cmp p ps) (rises path_cmp ps) r)) (among_rises c v ps (and_right (is_below path_cmp p ps) (rises path_cmp ps) r))) (λ _. among_rises c v ps (and_right (is_below path_cmp p ps) (rises path_cmp ps) r))
+among_rises c v (p ∷ ps) r = by_test (is_of c (v.node p)) (λ a. rises path_cmp (cond a (p ∷ owned_among c v ps) (owned_among c v ps)) ≡ true) (λ _. rw (among_below c v ps p (and_left (is_below path_cmp p ps) (rises path_cmp ps) r)) (among_rises c v ps (and_right (is_below path_cmp p ps) (rises path_cmp ps) r))) (λ _. among_rises c v ps (and_right (is_below path_cmp p ps) (rises path_cmp ps) r))
 
 all_has : (done : List Applied) (q : PathNames) → has_path q (all_edited done) ≡ is_edited q done
 all_has [] q = refl
 all_has (a ∷ done) q = has_append q (edited_paths a) (all_edited done) ∙ ap (λ b. has_path q (edited_paths a) || b) (all_has done q)
 
 -- the listed paths are those whose node the session owns
-pub owned_has : (c : ℕ) (done : List Applied) (q : PathNames) → c ≢ 0 → has_path q (owned_after c done) ≡ is_owned c ((view_after done).node q)
-owned_has c done q z = among_has c (view_after done) (in_path_order (all_edited done)) q ∙ ap (λ b. b && has_path q (in_path_order (all_edited done))) (owner_same c ((view_after done).node q)) ∙ by_owner (is_owned c ((view_after done).node q)) refl
+pub owned_has : (c : ℕ) (done : List Applied) (q : PathNames) → c ≢ 0 → has_path q (owned_after c done) ≡ is_of c ((view_after done).node q)
+owned_has c done q z = among_has c (view_after done) (in_path_order (all_edited done)) q ∙ by_owner (is_of c ((view_after done).node q)) refl
   where
-    by_owner : (b : Bool) → is_owned c ((view_after done).node q) ≡ b → (b && has_path q (in_path_order (all_edited done))) ≡ b
+    by_owner : (b : Bool) → is_of c ((view_after done).node q) ≡ b → (b && has_path q (in_path_order (all_edited done))) ≡ b
     by_owner true e = ordered_has (all_edited done) q ∙ all_has done q ∙ owned_was_edited done c q z e
     by_owner false e = refl
 

@@ -1,7 +1,7 @@
 -- Live pushes fit what the commits left, and edit what their functions locked.
 use Rattle.std.specs.Prelude.{◌||◌}
 use Rattle.std.proofs.Common.{◌≡◌, ◌≢◌, ℕ, ◌+◌, ◌++◌, Bool, true, false, List, [], ◌∷◌, refl, sym, ◌∙◌, ap, subst, arith, Option, Some, None, append-nil}
-use Rattle.std.proofs.lemmas.Bool.{false≢true}
+use Rattle.std.proofs.lemmas.Bool.{false≢true, or_right, or_parts}
 use Rattle.std.proofs.lemmas.Bool.Decides.{nat_tests}
 use Rattle.fk_base.specs.Path.{PathNames, same_path}
 use Rattle.fk_tree.specs.Edit.{view_after}
@@ -12,6 +12,7 @@ use Rattle.fk_tree.specs.declared.applied.Applied.{Applied}
 use Rattle.fk_tree.specs.declared.request.Request.{Request}
 use Rattle.fk_tree.specs.declared.request.Request.TheVariants as request
 use Rattle.fk_tree.proofs.Order.{by_test, same_path_is, same_path_self}
+use Rattle.fk_tree.proofs.Looking.{same_flip}
 use Rattle.fk_print.specs.declared.entry.Entry.{Entry}
 use Rattle.fk_print.specs.declared.op.Op.{Op}
 use Rattle.fk_print.specs.declared.op.Op.TheVariants as op
@@ -47,17 +48,13 @@ use Rattle.fk_law.proofs.Filling.{locked_fits, refilled}
 use Rattle.fk_law.proofs.Standing.{OnStanding}
 use Rattle.fk_law.proofs.Leaving.{FitsLocked, Sees, Lists, IsSeen, IsCommit, commit_is, other_session}
 use Rattle.fk_law.proofs.Seeing.{sees_step, lists_step}
-use Rattle.fk_law_tree.proofs.Members.{flipped, or_left, or_right}
+use Rattle.fk_law_tree.proofs.Members.{or_left}
 
 -- A push that was live before. ------------------------------------------------------------------------
 
 own_held_on : (n : ℕ) (q : PathNames) (h : List Entry) (o : Op) → ((path : PathNames) → o ≡ op.LockOk n path → ⊥) → IsOwn n (grant_in q (clock_of h) o (last_grant q h)) → IsOwn n (last_grant q h)
 own_held_on n q h (op.LockOk m path) f i = grind (arith, nat_tests, f path)
 own_held_on n q h o f i = i
-
-not_committed : (a b : Bool) → (a || b) ≡ false → b ≡ false
-not_committed true b e = absurd (false≢true (sym e))
-not_committed false b e = e
 
 -- Live after an entry, where it was pushed before: live before.
 abbrev live_before : (p : Plan) (t : ℕ) (e : Entry) (h : List Entry) → IsHistory p (e ∷ h) → (x : IsLive t (e ∷ h)) → IsPushOf t x.function x.session x.k h → IsLive t h
@@ -66,7 +63,7 @@ live_before p t e h l x w = record {
   session = x.session;
   k = x.k;
   is_of = w;
-  uncommitted = not_committed (commits t e.op) (is_committed t h) x.uncommitted;
+  uncommitted = (or_parts (commits t e.op) (is_committed t h) x.uncommitted).1;
   next = settled_so p x.session x.k e h (task_at_most_next p x.function x.session x.k h l.0 w.task) x.next;
   own = λ q g. own_held_on x.function q h e.op (λ path b. no_more_locks p t x.function path h l.0 (subst (IsDue p h) b (due p e h l)) (is_push_of_it t x.function x.session x.k h w)) (x.own q (granted_stays x.function q e h g));
 }
@@ -130,12 +127,8 @@ fits_on : (p : Plan) (t : ℕ) (h : List Entry) (y : Pushed) (o : Op) → IsHist
 fits_on p t h y (op.CommitOk a u) l s d x e q n = fits_commit p a u t h y l s d x (grind (arith, nat_tests)) q n
 fits_on p t h y o l s d x e q n = let i = s.pushes t x y q in (i.0, i.1, refl)
 
-not_here : (a b : Bool) → (a || b) ≡ false → a ≡ false
-not_here true b e = e
-not_here false b e = refl
-
 old_fits : (p : Plan) (t : ℕ) (e : Entry) (h : List Entry) (y : Pushed) → IsHistory p (e ∷ h) → IsSeen p h → (x : IsLive t (e ∷ h)) → pushed_of p t h ≡ Some y → IsPushOf t x.function x.session x.k h → FitsAfter p t h y x.function (committed_of p (e ∷ h))
-old_fits p t e h y l s x q w = fits_on p t h y e.op l.0 s (due p e h l) (live_before p t e h l x w) (not_here (commits t e.op) (is_committed t h) x.uncommitted) q x.next
+old_fits p t e h y l s x q w = fits_on p t h y e.op l.0 s (due p e h l) (live_before p t e h l x w) (or_parts (commits t e.op) (is_committed t h) x.uncommitted).0 q x.next
 
 still_fits : (p : Plan) (t : ℕ) (e : Entry) (h : List Entry) (y : Pushed) → IsHistory p (e ∷ h) → IsSeen p h → (x : IsLive t (e ∷ h)) → pushed_of p t (e ∷ h) ≡ Some y → IsPushOf t x.function x.session x.k h → FitsLocked p t x.function (e ∷ h) y
 still_fits p t e h y l s x q w = let f = old_fits p t e h y l s x (sym (pushed_never_changes p t x.function x.session x.k h (e ∷ []) l w) ∙ q) w in (f.0, λ g v. granted_stays x.function g e h (f.1 g v))
@@ -156,7 +149,7 @@ seen_agrees_step p n h g gs q s c i b f = by_path (same_path g.path q) refl
 
 seen_agrees : (p : Plan) (n : ℕ) (h : List Entry) (gs : List Granted) → AreCurrent p n h gs → ((q : PathNames) → has_path q (paths_of gs) ≡ true → IsOwn n (last_grant q h)) → (q : PathNames) → has_path q (paths_of gs) ≡ true → node_in gs q ≡ (stored_view p h).node q
 seen_agrees p n h [] i o q b = absurd (false≢true b)
-seen_agrees p n h (g ∷ gs) i o q b = seen_agrees_step p n h g gs q (same_path_is g.path q) (i.0 (o g.path (or_left _ _ (same_path_self g.path)))).node (seen_agrees p n h gs i.1 (λ x v. o x (or_right (same_path x g.path) _ v)) q) b (flipped q g.path)
+seen_agrees p n h (g ∷ gs) i o q b = seen_agrees_step p n h g gs q (same_path_is g.path q) (i.0 (o g.path (or_left _ _ (same_path_self g.path)))).node (seen_agrees p n h gs i.1 (λ x v. o x (or_right (same_path x g.path) _ v)) q) b (same_flip q g.path)
 
 pub lists_owned : (p : Plan) (h : List Entry) (f : Follower) (r : Request) → Lists p h f → request_of p f.session f.k h ≡ Some r → Locks f.stage → settled_of f.session h + 1 ≡ f.k → ListsOwned (stored_view p h) f.session r f.owned
 lists_owned p h f (request.Create path bytes seq eph) i q w s = tt

@@ -1,22 +1,19 @@
 -- What a longer history keeps.
-use Rattle.std.specs.Prelude.{◌||◌}
-use Rattle.std.proofs.Common.{◌≡◌, ℕ, ◌≤◌, ◌++◌, Bool, true, List, [], ◌∷◌, arith, Option}
+use Rattle.std.proofs.Common.{ℕ, ◌≤◌, ◌++◌, List, [], ◌∷◌, arith}
 use Rattle.std.proofs.lemmas.Bool.Decides.{nat_tests}
+use Rattle.std.proofs.lemmas.Bool.{or_right}
 use Rattle.fk_print.specs.declared.entry.Entry.{Entry}
 use Rattle.fk_print.specs.declared.op.Op.{Op}
-use Rattle.fk_spec.specs.Start.{Origin, clock_of, clock_after, starts_of, count_start, started_in, pushes_of, count_push, pushed_in, sends_of, sent_in, count_sent}
+use Rattle.fk_spec.specs.Start.{clock_of, clock_after, starts_of, count_start, started_in, pushes_of, count_push, pushed_in, sends_of, sent_in}
 use Rattle.fk_spec.specs.Settling.{is_committed, commits, settled_of, settled_in, done_of, done_in, swept_of, swept_in, mark_of, mark_in}
 use Rattle.fk_spec.specs.Lanes.{follows_session, leads, notifies, removed_by, notes_of, note_count}
 use Rattle.fk_law.specs.LeaderLane.{is_published, publishes}
 use Rattle.fk_law.specs.Growing.{AreAtMost, NumbersNeverFall, CommittedStays, PublishedStays}
-use Rattle.fk_law.proofs.Settled.{removed_grows}
+use Rattle.fk_law.proofs.Settled.{removed_grows, counts_sent}
 use Rattle.fk_law.proofs.Committing.{counts_more}
 
 op_numbers : (o : Op) (a b c d e f g : ℕ) → (a ≤ clock_after o a) × (b ≤ count_start (started_in o) b) × (c ≤ count_push (pushed_in 0 o) c) × (d ≤ note_count o d) × (e ≤ done_in o e) × (f ≤ swept_in o f) × (g ≤ mark_in o g)
 op_numbers o a b c d e f g = grind (arith, nat_tests)
-
-counts_sent : (o : Option Origin) (n : ℕ) → n ≤ count_sent o n
-counts_sent o n = grind arith
 
 one_more : (e : Entry) (h : List Entry) → AreAtMost h (e ∷ h)
 one_more e h =
@@ -58,9 +55,6 @@ same h = record { clock = omega arith; starts = omega arith; pushes = omega arit
 pub numbers_never_fall : NumbersNeverFall
 numbers_never_fall h [] = same h
 numbers_never_fall h (e ∷ more) = both h (more ++ h) (e ∷ more ++ h) (numbers_never_fall h more) (one_more e (more ++ h))
-
-or_right : (a b : Bool) → b ≡ true → (a || b) ≡ true
-or_right a b e = grind arith
 
 pub committed_stays : CommittedStays
 committed_stays t h [] i = i

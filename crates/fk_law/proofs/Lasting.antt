@@ -1,6 +1,6 @@
 -- Refusals hold for ever.
 use Rattle.std.specs.Prelude.{nat_le, nat_eq}
-use Rattle.std.proofs.Common.{◌≡◌, ◌≢◌, ℕ, ◌+◌, ◌≤◌, ◌++◌, Bool, true, false, cond, List, [], ◌∷◌, refl, sym, ◌∙◌, ap, subst, arith, Option, Some}
+use Rattle.std.proofs.Common.{◌≡◌, ◌≢◌, ℕ, ◌+◌, ◌≤◌, ◌++◌, Bool, true, false, cond, List, [], ◌∷◌, refl, sym, ◌∙◌, ap, subst, arith, Some}
 use Rattle.std.proofs.lemmas.Bool.{false≢true}
 use Rattle.std.proofs.lemmas.Bool.Decides.{nat_tests}
 use Rattle.fk_base.specs.Path.{PathNames}
@@ -17,11 +17,11 @@ use Rattle.fk_print.specs.declared.op.Op.{Op}
 use Rattle.fk_print.specs.declared.op.Op.TheVariants as op
 use Rattle.fk_law_tree.proofs.Counting.{unedited_stays}
 use Rattle.fk_spec.specs.Plan.{Plan}
-use Rattle.fk_spec.specs.Start.{Push, pushes_of, count_push, pushed_in, request_of}
+use Rattle.fk_spec.specs.Start.{pushes_of, pushed_in, request_of}
 use Rattle.fk_spec.specs.Locks.{last_grant, granted, granted_in}
 use Rattle.fk_spec.specs.Settling.{settled_of}
 use Rattle.fk_spec.specs.Stored.{committed_of, committed_in, with_filled, filled_after, up_to}
-use Rattle.fk_spec.specs.Follower.{Follower, Granted, node_in, paths_of}
+use Rattle.fk_spec.specs.Follower.{Follower, node_in, paths_of}
 use Rattle.fk_spec.specs.Follower as follower
 use Rattle.fk_spec.specs.Function.{Following, place_of}
 use Rattle.fk_spec.specs.Next.{IsHistory}
@@ -43,6 +43,7 @@ use Rattle.fk_law.proofs.Leaving.{IsSeen, IsCommit, commit_is}
 use Rattle.fk_law.proofs.Fitting.{seen, was_live}
 use Rattle.fk_law.proofs.Numbering.{closed_apart}
 use Rattle.fk_law.proofs.Refusing.{IsRefused, refused_holds, seen_refusal, own_each, closed_refusal, closed_at_its_number, closed_on}
+use Rattle.fk_law.proofs.Closes.{count_more}
 
 -- Each live push up to the refusal's number is of another session, and its function wasn't granted any of
 -- the paths.
@@ -117,9 +118,6 @@ record Lasts (p : Plan) (c at : ℕ) (r : Request) (x : Refusal) (h : List Entry
   pub refused : IsRefused p c at r x h
   pub pushed : at ≤ pushes_of h
   pub final : IsFinal c at (paths_of refused.records) h
-
-count_more : (o : Option Push) (n : ℕ) → n ≤ count_push o n
-count_more o n = grind arith
 
 lasts_on : (p : Plan) (c at : ℕ) (r : Request) (x : Refusal) (e : Entry) (h : List Entry) → IsHistory p (e ∷ h) → Lasts p c at r x h → Lasts p c at r x (e ∷ h)
 lasts_on p c at r x e h l i = record {

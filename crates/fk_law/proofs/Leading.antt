@@ -1,7 +1,7 @@
 -- The leader lane: its pushes are finished one after another.
 use Rattle.std.specs.Prelude.{◌==◌, ◌||◌, max, nat_le}
 use Rattle.std.proofs.Common.{◌≡◌, ℕ, ◌+◌, ◌<◌, ◌≤◌, ◌⊎◌, inl, inr, Bool, true, false, List, [], ◌∷◌, refl, sym, ◌∙◌, subst, arith, Some}
-use Rattle.std.proofs.lemmas.Bool.{false≢true}
+use Rattle.std.proofs.lemmas.Bool.{false≢true, or_right, leb-true, leb-false}
 use Rattle.std.proofs.lemmas.Bool.Decides.{nat_tests}
 use Rattle.fk_base.specs.Path.{PathNames}
 use Rattle.fk_print.specs.declared.entry.Entry.{Entry}
@@ -20,7 +20,7 @@ use Rattle.fk_law.specs.Due.{IsDue, Acks}
 use Rattle.fk_law.specs.Functions.{IsFor}
 use Rattle.fk_law.specs.Losing.{IsDead}
 use Rattle.fk_law.specs.LeaderLane.{publishes, is_published, IsFinished, DoneIsRemovedOrOneMore, MarkBehindSweep, SweptAreCommitted, PublishedAreSwept, PublishedUpToTheMark, PushesBelowTheHeadAreFinished, CommitsAreBeyondTheSweep, StandsSo, Stands, LeaderStandsWhereItMay, LeaderWorksAtOrBelowTheHead, DoneWerePushed, PublishedAreCommitted, sweeps, is_swept, SweptUpToTheSweep}
-use Rattle.fk_law.proofs.Numbers.{at_most, above, less_or_not}
+use Rattle.fk_law.proofs.Numbers.{less_or_not}
 use Rattle.fk_law.proofs.Due.{due}
 use Rattle.fk_law.proofs.Moving.{OnLeader, leader_step}
 use Rattle.fk_law.proofs.Starting.{leader_task, place_for}
@@ -63,9 +63,8 @@ stands_grow D E c b d1 d2 s1 s2 m1 m2 t s f g x y z i = grind arith
 grows : (t : ℕ) (h : List Entry) (o : Op) → (done_of h ≤ done_in o (done_of h)) × (swept_of h ≤ swept_in o (swept_of h)) × (mark_of h ≤ mark_in o (mark_of h))
 grows t h o = grind (arith, nat_tests)
 
-or_right : (a b : Bool) → b ≡ true → (a || b) ≡ true
-or_right true b e = refl
-or_right false b e = e
+pub mark_grows : (m : ℕ) (o : Op) → m ≤ mark_in o m
+mark_grows m o = grind (arith, nat_tests)
 
 put_stands : (D : Type 0) (c : Bool) (d w m t : ℕ) (ps : List PathNames) → c ≡ true → t ≤ w → StandsSo D c d w m t (to_put ps)
 put_stands D c d w m t [] e b = (e, b)
@@ -219,8 +218,8 @@ was_swept_step p u h (op.SweepOk n t fired) l d i a b = by_old (nat_le u (swept_
     same m c = let g = less_or_not (done_of h) u (λ x. not_finished m (i.finished u (omega (arith, m)) x)) in let y = i.between in let z = r.2 in omega (arith, g, y.0, z, c)
 
     by_old : (c : Bool) → nat_le u (swept_of h) ≡ c → ((t == u) || is_swept u h) ≡ true
-    by_old true e = or_right (t == u) (is_swept u h) (i.was_swept u a (at_most u (swept_of h) e))
-    by_old false e = let m = above u (swept_of h) e in let f : u ≡ t = same m (grind (arith, nat_tests)) in grind (arith, nat_tests)
+    by_old true e = or_right (t == u) (is_swept u h) (i.was_swept u a (leb-true u (swept_of h) e))
+    by_old false e = let m = leb-false u (swept_of h) e in let f : u ≡ t = same m (grind (arith, nat_tests)) in grind (arith, nat_tests)
 was_swept_step p u h o l d i a b = let q = i.was_swept u in grind (arith, nat_tests)
 
 order_step : (p : Plan) (e : Entry) (h : List Entry) → IsHistory p (e ∷ h) → IsInOrder p h → IsInOrder p (e ∷ h)

@@ -7,13 +7,13 @@ use Rattle.fk_tree.specs.Sorted.{has_path}
 use Rattle.fk_tree.specs.Touch.{edited_paths}
 use Rattle.fk_tree.specs.declared.applied.Applied.{Applied}
 use Rattle.fk_tree.specs.declared.request.Request.{Request}
+use Rattle.fk_tree.specs.Rows.{is_of}
 use Rattle.fk_tree.proofs.Order.{by_test}
 use Rattle.fk_print.specs.declared.entry.Entry.{Entry}
 use Rattle.fk_print.specs.declared.op.Op.{Op}
 use Rattle.fk_print.specs.declared.op.Op.TheVariants as op
 use Rattle.fk_law_tree.specs.Fitting.{Fits}
 use Rattle.fk_law_tree.specs.Locking.{Within}
-use Rattle.fk_law_tree.specs.Owners.{is_owned}
 use Rattle.fk_law_tree.proofs.Counting.{unedited_stays}
 use Rattle.fk_law_tree.proofs.Owning.{keeps_foreign_owners}
 use Rattle.fk_spec.specs.Plan.{Plan}
@@ -42,7 +42,7 @@ abbrev pub Sees : Plan → ℕ → List Entry → Follower → Type 0
 Sees p n h f = progress f.stage ≡ Works → AreCurrent p n h f.granted
 
 abbrev pub Lists : Plan → List Entry → Follower → Type 0
-Lists p h f = (r : Request) → request_of p f.session f.k h ≡ Some r → closes r ≡ true → Locks f.stage → settled_of f.session h + 1 ≡ f.k → (q : PathNames) → is_owned f.session ((stored_view p h).node q) ≡ true → has_path q f.owned ≡ true
+Lists p h f = (r : Request) → request_of p f.session f.k h ≡ Some r → closes r ≡ true → Locks f.stage → settled_of f.session h + 1 ≡ f.k → (q : PathNames) → is_of f.session ((stored_view p h).node q) ≡ true → has_path q f.owned ≡ true
 
 -- what holds of each history, by one induction
 pub record IsSeen (p : Plan) (h : List Entry) : Type 0 where
@@ -82,16 +82,16 @@ leaves p n h q (op.CommitOk a t) l d s f o =
 leaves p n h q o l d s f w = (refl, refl)
 
 -- Where a session settles nothing, another's commit gives it no node.
-filled_owned : (c t : ℕ) (done : List Applied) (q : PathNames) (y : Pushed) → c ≢ 0 → c ≢ y.session → is_owned c ((view_after (filled_after done t y ∷ done)).node q) ≡ true → is_owned c ((view_after done).node q) ≡ true
+filled_owned : (c t : ℕ) (done : List Applied) (q : PathNames) (y : Pushed) → c ≢ 0 → c ≢ y.session → is_of c ((view_after (filled_after done t y ∷ done)).node q) ≡ true → is_of c ((view_after done).node q) ≡ true
 filled_owned c t done q y z e o = keeps_foreign_owners (view_after done) (filled_after done t y) q c z e o
 
 pub other_session : (c t k a : ℕ) (h : List Entry) → (x : IsLive t h) → k ≤ settled_of c h + 1 → count_settling c (settled_in h (op.CommitOk a t)) (settled_of c h) + 1 ≡ k → c ≢ x.session
 other_session c t k a h x b s e = let g = session_of_its_push t x.function x.session x.k h x.is_of in grind (arith, nat_tests)
 
 pub owned_back : (p : Plan) (c k : ℕ) (h : List Entry) (q : PathNames) (o : Op) → IsHistory p h → IsDue p h o → c ≢ 0 → k ≤ settled_of c h + 1 → count_settling c (settled_in h o) (settled_of c h) + 1 ≡ k
-    → is_owned c ((view_after (committed_in p h o (committed_of p h))).node q) ≡ true → is_owned c ((stored_view p h).node q) ≡ true
+    → is_of c ((view_after (committed_in p h o (committed_of p h))).node q) ≡ true → is_of c ((stored_view p h).node q) ≡ true
 owned_back p c k h q (op.CommitOk a t) l d z b s w =
     let x = commit_is p a t h l d in
     let e = other_session c t k a h x.live b s in
-    filled_owned c t (committed_of p h) q x.pushed z (λ u. e (u ∙ x.session)) (subst (λ v. is_owned c ((view_after (with_filled (committed_of p h) t v)).node q) ≡ true) x.is w)
+    filled_owned c t (committed_of p h) q x.pushed z (λ u. e (u ∙ x.session)) (subst (λ v. is_of c ((view_after (with_filled (committed_of p h) t v)).node q) ≡ true) x.is w)
 owned_back p c k h q o l d z b s w = w

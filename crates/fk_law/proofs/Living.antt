@@ -5,6 +5,7 @@ use Rattle.std.proofs.lemmas.Bool.Decides.{nat_tests}
 use Rattle.fk_base.specs.Path.{PathNames, same_path}
 use Rattle.fk_tree.specs.Sorted.{has_path, in_path_order}
 use Rattle.fk_tree.proofs.Order.{same_path_self}
+use Rattle.fk_law_tree.proofs.Lists.{ordered_has}
 use Rattle.fk_print.specs.declared.entry.Entry.{Entry}
 use Rattle.fk_print.specs.declared.op.Op.TheVariants as op
 use Rattle.fk_spec.specs.Plan.{Plan}
@@ -15,7 +16,7 @@ use Rattle.fk_law.specs.Due.{IsPushOf, HoldsAll}
 use Rattle.fk_law.specs.Losing.{IsOwn, IsLive, PushIsLiveDeadOrCommitted, LiveCommits, CommitterIsLive}
 use Rattle.fk_law.proofs.Settled.{commit_of, task_at_most_next}
 use Rattle.fk_law.proofs.Committing.{its_push_is_one, commits_once}
-use Rattle.fk_law.proofs.Losing.{IsOver, holds_each, ordered_has, missed_lock, settled_over}
+use Rattle.fk_law.proofs.Losing.{IsOver, holds_each, missed_lock, settled_over}
 use Rattle.fk_law.proofs.Locking.{unsettled_unreleased}
 use Rattle.fk_law.proofs.Rising.{held_own}
 

@@ -1,13 +1,13 @@
 -- A push whose lock passed on never commits.
 use Rattle.std.specs.Prelude.{◌==◌, ◌||◌, is_some}
-use Rattle.std.proofs.Common.{◌≡◌, ℕ, ◌+◌, ◌≤◌, ◌++◌, ◌⊎◌, inl, inr, Bool, true, false, List, [], ◌∷◌, refl, sym, ◌∙◌, ap, subst, arith, Option, Some, None}
+use Rattle.std.proofs.Common.{◌≡◌, ℕ, ◌+◌, ◌≤◌, ◌++◌, ◌⊎◌, inl, inr, Bool, true, false, List, [], ◌∷◌, refl, sym, ◌∙◌, subst, arith, Option, Some, None}
 use Rattle.std.proofs.lemmas.Bool.{false≢true}
 use Rattle.std.proofs.lemmas.Bool.Decides.{nat_tests}
 use Rattle.fk_base.specs.Path.{PathNames, same_path}
 use Rattle.fk_base.specs.declared.code.Code.{Code}
 use Rattle.fk_tree.specs.Sorted.{has_path, in_path_order}
-use Rattle.fk_tree.proofs.Order.{path_total, path_exact, same_path_is, same_path_self}
-use Rattle.fk_tree.proofs.Rising.{has_with}
+use Rattle.fk_tree.proofs.Order.{same_path_is, same_path_self}
+use Rattle.fk_law_tree.proofs.Lists.{ordered_has}
 use Rattle.fk_print.specs.declared.entry.Entry.{Entry}
 use Rattle.fk_print.specs.declared.op.Op.{Op}
 use Rattle.fk_print.specs.declared.op.Op.TheVariants as op
@@ -24,10 +24,6 @@ use Rattle.fk_law.proofs.Settled.{commit_of, session_of_its_push, task_at_most_n
 use Rattle.fk_law.proofs.Committing.{its_push_stays, its_push_is_one, committed_settled, at_work_unpushed, counts_more, committed_now, is_push_of_it}
 
 -- Paths. ----------------------------------------------------------------------------------------------
-
-pub ordered_has : (ps : List PathNames) (p : PathNames) → has_path p (in_path_order ps) ≡ has_path p ps
-ordered_has [] p = refl
-ordered_has (q ∷ ps) p = has_with path_total path_exact p q (in_path_order ps) ∙ ap (λ b. same_path p q || b) (ordered_has ps p)
 
 pub same_sym : (p q : PathNames) → same_path p q ≡ true → same_path q p ≡ true
 same_sym p q e = subst (λ (x : PathNames). same_path x p ≡ true) (same_path_is p q e) (same_path_self p)

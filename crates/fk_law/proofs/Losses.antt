@@ -1,7 +1,7 @@
 -- A request whose lock passed on has the lines that show it.
-use Rattle.std.specs.Prelude.{◌==◌, ◌||◌, ◌&&◌, nat_lt}
-use Rattle.std.proofs.Common.{◌≡◌, ◌≢◌, ℕ, ◌+◌, ◌<◌, Bool, true, false, cond, List, [], ◌∷◌, refl, sym, ◌∙◌, ap, subst, arith, Option, Some, None}
-use Rattle.std.proofs.lemmas.Bool.{false≢true}
+use Rattle.std.specs.Prelude.{◌==◌, ◌||◌, ◌&&◌}
+use Rattle.std.proofs.Common.{◌≡◌, ◌≢◌, ℕ, ◌+◌, Bool, true, false, cond, List, [], ◌∷◌, refl, sym, ◌∙◌, ap, subst, arith, Option, Some, None}
+use Rattle.std.proofs.lemmas.Bool.{false≢true, or_right, lt-ltb}
 use Rattle.std.proofs.lemmas.Bool.Decides.{nat_tests}
 use Rattle.fk_base.specs.Path.{PathNames, same_path}
 use Rattle.fk_tree.specs.Sorted.{has_path}
@@ -21,9 +21,6 @@ use Rattle.fk_law.proofs.Due.{due}
 use Rattle.fk_law.proofs.Starting.{task_stays, follower_task}
 use Rattle.fk_law.proofs.Passing.{IsLateFind, loss_commit, loss_refusal, no_loss, task_or_none, none_lost, loss_is_after_expiry}
 use Rattle.fk_law.proofs.Losing.{has_last, same_sym}
-
-or_right : (a b : Bool) → b ≡ true → (a || b) ≡ true
-or_right a b e = grind arith
 
 -- the miss stands where the loss was found
 missed_step : (n : ℕ) (x : Loss) (h : List Entry) (o : Op) → same_path x.path x.path ≡ true → (loss_of n h ≡ Some x → has_missed n x.path x.found x.moment h ≡ true) → loss_in n h o (loss_of n h) ≡ Some x → (misses n x.path x.found x.moment o || has_missed n x.path x.found x.moment h) ≡ true
@@ -126,11 +123,8 @@ lines : (p : Plan) (n c k : ℕ) (x : Loss) (h : List Entry) → IsHistory p h �
 lines p n c k x [] l t e = absurd (grind arith)
 lines p n c k x (e ∷ h) l t a = line_entry p n c k x e h (task_of n h) refl l t (lines p n c k x h l.0) a
 
-less_so : (a b : ℕ) → a < b → nat_lt a b ≡ true
-less_so a b l = grind (arith, nat_tests)
-
 pub loss_has_its_lines : LossHasItsLines
-loss_has_its_lines p n c k x h l t e = record { passed = lines p n c k x h l t e; beyond = less_so _ _ (loss_is_after_expiry p n c k x h l t e).1; missed = missed n x h e }
+loss_has_its_lines p n c k x h l t e = record { passed = lines p n c k x h l t e; beyond = lt-ltb _ _ (loss_is_after_expiry p n c k x h l t e).1; missed = missed n x h e }
 
 -- Requests that were settled as lost. -----------------------------------------------------------------
 

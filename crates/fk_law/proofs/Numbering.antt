@@ -2,6 +2,7 @@
 use Rattle.std.specs.Prelude.{nat_le, nat_eq}
 use Rattle.std.proofs.Common.{◌≡◌, ◌≢◌, ℕ, ◌+◌, ◌<◌, ◌≤◌, Bool, true, false, cond, eqb, ◌||◌, List, [], ◌∷◌, refl, sym, ◌∙◌, ap, subst, arith, Some}
 use Rattle.std.proofs.lemmas.Bool.Decides.{nat_tests}
+use Rattle.std.proofs.lemmas.Bool.{le-leb, leb-true}
 use Rattle.fk_base.specs.Path.{PathNames}
 use Rattle.fk_tree.specs.Edit.{after, closes, edited, effects, view_after}
 use Rattle.fk_tree.specs.Sorted.{has_path}
@@ -17,14 +18,8 @@ use Rattle.fk_law_tree.proofs.Parting.{fits_after_others}
 use Rattle.fk_spec.specs.Stored.{applied_as, last_editor, up_to}
 use Rattle.fk_law.specs.Numbering.{last_in, IsNewest, AllNewest}
 
-pub test_is : (a b : ℕ) → a ≤ b → nat_le a b ≡ true
-test_is a b e = grind (arith, nat_tests)
-
 test_not : (a b : ℕ) → b < a → nat_le a b ≡ false
 test_not a b e = grind (arith, nat_tests)
-
-test_most : (a b : ℕ) → nat_le a b ≡ true → a ≤ b
-test_most a b e = grind (arith, nat_tests)
 
 -- What counts up to a number. -------------------------------------------------------------------------
 
@@ -36,7 +31,7 @@ node_step n q a done i f b = by_edit (has_path q (edited_paths a)) refl b
     by_number e b false u = f b
 
     by_edit : (z : Bool) → has_path q (edited_paths a) ≡ z → cond z a.tx (last_editor q done) ≤ n → (view_after (up_to n (a ∷ done))).node q ≡ (view_after (a ∷ done)).node q
-    by_edit true e b = rw (test_is a.tx n b) (ap (edited a.tx a.moment q (effects a)) (f (let w = i.paths q e in omega (arith, b, w))))
+    by_edit true e b = rw (le-leb a.tx n b) (ap (edited a.tx a.moment q (effects a)) (f (let w = i.paths q e in omega (arith, b, w))))
     by_edit false e b = by_number e b (nat_le a.tx n) refl ∙ sym (unedited_stays (view_after done) a q e)
 
 pub node_counts : (n : ℕ) (q : PathNames) (done : List Applied) → AllNewest done → last_editor q done ≤ n → (view_after (up_to n done)).node q ≡ (view_after done).node q
@@ -62,7 +57,7 @@ closed_step n c a done i f b = by_session (nat_eq a.session c) refl b
     low e b = let s : a.session ≡ c = grind (arith, nat_tests) in let w : last_in c done < a.tx = subst (λ z. last_in z done < a.tx) s i.session in omega (arith, b, w)
 
     by_session : (z : Bool) → nat_eq a.session c ≡ z → cond z a.tx (last_in c done) ≤ n → (view_after (up_to n (a ∷ done))).closed c ≡ (view_after (a ∷ done)).closed c
-    by_session true e b = rw (test_is a.tx n b) (ap (λ x. cond (closes a.request) (eqb a.session c || x) x) (f (low e b)))
+    by_session true e b = rw (le-leb a.tx n b) (ap (λ x. cond (closes a.request) (eqb a.session c || x) x) (f (low e b)))
     by_session false e b = by_number e b (nat_le a.tx n) refl ∙ sym (closed_apart (view_after done) a c e)
 
 pub closed_counts : (n c : ℕ) (done : List Applied) → AllNewest done → last_in c done ≤ n → (view_after (up_to n done)).closed c ≡ (view_after done).closed c
@@ -80,7 +75,7 @@ more_at_most b n (a ∷ done) e i = (let w = i.0 in omega (arith, e, w), more_at
 
 pub all_counted : (n : ℕ) (done : List Applied) → AllAtMost n done → up_to n done ≡ done
 all_counted n [] i = refl
-all_counted n (a ∷ done) i = rw (test_is a.tx n i.0) (ap (λ rest. a ∷ rest) (all_counted n done i.1))
+all_counted n (a ∷ done) i = rw (le-leb a.tx n i.0) (ap (λ rest. a ∷ rest) (all_counted n done i.1))
 
 -- Commits fit at their numbers. -----------------------------------------------------------------------
 
@@ -134,7 +129,7 @@ fits_still done b a i k f n e = by_number (nat_le b.tx n) refl
     apart v q x = by_test (has_path q (edited_paths a)) (λ z. z ≡ false) (λ y. let w = i.paths q x in let u = k.paths q y in absurd (omega (arith, e, v, w, u))) (λ _. refl)
 
     by_number : (z : Bool) → nat_le b.tx n ≡ z → Fits (view_after (cond z (b ∷ up_to n done) (up_to n done))) a
-    by_number true v = fits_after_others (view_after (up_to n done)) b a (f n e) (session (test_most b.tx n v)) (apart (test_most b.tx n v))
+    by_number true v = fits_after_others (view_after (up_to n done)) b a (f n e) (session (leb-true b.tx n v)) (apart (leb-true b.tx n v))
     by_number false v = f n e
 
 all_still : (done : List Applied) (b : Applied) (rest : List Applied) → IsNewest done b → AllKnown done rest → AllFitBefore done rest → AllFitBefore (b ∷ done) rest

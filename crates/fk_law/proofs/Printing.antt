@@ -85,7 +85,7 @@ no_client_txs p h o (Some c) =
 
 -- The lines of an entry. ------------------------------------------------------------------------------
 
-lines_are : (p : Plan) (e : Entry) (h : List Entry) → IsHistory p (e ∷ h) → e.lines ≡ next_lines p h e.op
+pub lines_are : (p : Plan) (e : Entry) (h : List Entry) → IsHistory p (e ∷ h) → e.lines ≡ next_lines p h e.op
 lines_are p e h l = ap (λ x. x.lines) l.1.0 ∙ ap (next_lines p h) (sym (ap (λ x. x.op) l.1.0))
 
 txs_more : (p : Plan) (e : Entry) (h : List Entry) → IsHistory p (e ∷ h) → txs_of (e ∷ h) ≡ txs_among (lines_onto (next_lines p h e.op) (lines_of h))

@@ -1,7 +1,7 @@
 -- The tree of the transaction lines, and that each request is published once.
-use Rattle.std.specs.Prelude.{◌||◌, nat_le, nat_lt, nat_eq}
+use Rattle.std.specs.Prelude.{◌||◌, nat_le, nat_eq}
 use Rattle.std.proofs.Common.{◌≡◌, ◌≢◌, ℕ, zero, suc, ◌+◌, ◌-◌, ◌<◌, ◌≤◌, Bool, true, false, cond, List, [], ◌∷◌, max, refl, sym, ◌∙◌, ap, subst, arith, Option, Some, None}
-use Rattle.std.proofs.lemmas.Bool.{false≢true}
+use Rattle.std.proofs.lemmas.Bool.{false≢true, lt-ltb}
 use Rattle.std.proofs.lemmas.Bool.Decides.{nat_tests}
 use Rattle.fk_tree.specs.Apply.{apply, apply_nodes, apply_parts, IsFilled}
 use Rattle.fk_tree.specs.Check.{check}
@@ -182,9 +182,6 @@ below_request : (c k m : ℕ) (done : List Applied) → 0 < k → ((n : ℕ) (a 
 below_request c k zero done b f = b
 below_request c k (suc m) done b f = least_step c k m done (applied_as (suc m) done) (λ a e s. f (suc m) a (omega arith) e s) (below_request c k m done b (λ n a v e s. f n a (omega (arith, v)) e s))
 
-less_test : (a b : ℕ) → a < b → nat_lt a b ≡ true
-less_test a b e = grind (arith, nat_tests)
-
 tree_before : (p : Plan) (m : ℕ) (h : List Entry) (a : Applied) → IsHistory p h → suc m ≤ mark_of h → committed_as p (suc m) h ≡ Some a → published_tree h (a.tx - 1) ≡ tree_after (numbered m (committed_of p h))
 tree_before p m h a l v q = let n = tx_is (suc m) (committed_of p h) a q in ap (published_tree h) (omega (arith, n)) ∙ published_is p m h l (omega (arith, v))
 
@@ -200,8 +197,8 @@ published_at p m h a l v q =
 
 line_fits : (p : Plan) (m : ℕ) (h : List Entry) (a : Applied) → IsHistory p h → suc m ≤ mark_of h → committed_as p (suc m) h ≡ Some a → TxFits p h (printed_of a) (all_printed (numbered m (committed_of p h)))
 line_fits p m h a l v q = record {
-  rises = less_test (greatest_tx (all_printed (numbered m done))) a.tx (let g = greatest_at_most m done in omega (arith, g, number));
-  in_order = less_test (greatest_request a.session (all_printed (numbered m done))) a.k (below_request a.session a.k m done (reached p x.function a.session a.k h l x.is_of.task).0 earlier);
+  rises = lt-ltb (greatest_tx (all_printed (numbered m done))) a.tx (let g = greatest_at_most m done in omega (arith, g, number));
+  in_order = lt-ltb (greatest_request a.session (all_printed (numbered m done))) a.k (below_request a.session a.k m done (reached p x.function a.session a.k h l x.is_of.task).0 earlier);
   applied = subst (ShowsApplied h (printed_of a)) (sym (published_at p m h a l v q)) (refl, ap (λ t. check (look t) a.session a.request) (tree_before p m h a l v q) ∙ (filled_before p m h a l q).passes);
 }
   where

@@ -1,7 +1,7 @@
 -- Refusals hold at their numbers.
 use Rattle.std.specs.Prelude.{◌||◌, nat_le}
 use Rattle.std.proofs.Common.{◌≡◌, ℕ, ◌+◌, ◌≤◌, ◌++◌, Bool, true, false, cond, eqb, List, [], ◌∷◌, max, append-nil, refl, sym, ◌∙◌, ap, subst, arith, Some, None}
-use Rattle.std.proofs.lemmas.Bool.{false≢true}
+use Rattle.std.proofs.lemmas.Bool.{false≢true, or_right}
 use Rattle.fk_base.specs.Path.{PathNames, same_path}
 use Rattle.fk_base.specs.declared.code.Code.{Code}
 use Rattle.fk_base.specs.declared.code.Code.TheVariants as code
@@ -13,18 +13,19 @@ use Rattle.fk_tree.specs.View.{View, look}
 use Rattle.fk_tree.specs.declared.applied.Applied.{Applied}
 use Rattle.fk_tree.specs.declared.request.Request.{Request}
 use Rattle.fk_tree.proofs.Order.{same_path_is, same_path_self}
+use Rattle.fk_tree.proofs.Looking.{same_flip}
 use Rattle.fk_print.specs.declared.entry.Entry.{Entry}
 use Rattle.fk_print.specs.declared.op.Op.{Op}
 use Rattle.fk_print.specs.declared.op.Op.TheVariants as op
 use Rattle.fk_law_tree.specs.Following.{tree_after}
 use Rattle.fk_law_tree.proofs.Growing.{locked_is_enough}
-use Rattle.fk_law_tree.proofs.Members.{flipped, or_left, or_right}
+use Rattle.fk_law_tree.proofs.Members.{or_left}
 use Rattle.fk_spec.specs.Plan.{Plan}
 use Rattle.fk_spec.specs.Start.{request_of, seen_with}
 use Rattle.fk_spec.specs.Locks.{last_grant, granted}
 use Rattle.fk_spec.specs.Settling.{settled_of, last_of_session}
 use Rattle.fk_spec.specs.Stored.{committed_of, committed_in, with_filled, stored_view, last_edit, up_to}
-use Rattle.fk_spec.specs.Follower.{Follower, Granted, node_in, view_of, greatest_last, refusal_number, next_with, to_begin, paths_of}
+use Rattle.fk_spec.specs.Follower.{Follower, Granted, node_in, view_of, greatest_last, next_with, paths_of}
 use Rattle.fk_spec.specs.Follower as follower
 use Rattle.fk_spec.specs.Function.{Following, place_of, actor}
 use Rattle.fk_spec.specs.Next.{IsHistory}
@@ -132,7 +133,7 @@ missing_step g gs q i b = by_path (same_path q g.path) refl b
   where
     by_path : (z : Bool) → same_path q g.path ≡ z → (z || has_path q (paths_of gs)) ≡ false → node_in (g ∷ gs) q ≡ None
     by_path true u b = absurd (false≢true (sym b))
-    by_path false u b = rw (flipped g.path q ∙ u) (i b)
+    by_path false u b = rw (same_flip g.path q ∙ u) (i b)
 
 missing : (gs : List Granted) (q : PathNames) → has_path q (paths_of gs) ≡ false → node_in gs q ≡ None
 missing [] q b = refl

@@ -1,7 +1,7 @@
 -- Commits on a path and in a session come in the order of their numbers.
 use Rattle.std.specs.Prelude.{◌||◌, nat_le}
 use Rattle.std.proofs.Common.{◌≡◌, ◌≢◌, ℕ, ◌+◌, ◌<◌, ◌≤◌, ◌++◌, Bool, true, false, List, [], ◌∷◌, refl, sym, ◌∙◌, ap, subst, arith, Option, Some, None}
-use Rattle.std.proofs.lemmas.Bool.{false≢true}
+use Rattle.std.proofs.lemmas.Bool.{false≢true, leb-true, leb-false}
 use Rattle.std.proofs.lemmas.Bool.Decides.{nat_tests}
 use Rattle.fk_base.specs.Path.{PathNames}
 use Rattle.fk_tree.specs.Sorted.{has_path}
@@ -16,7 +16,6 @@ use Rattle.fk_spec.specs.Next.{IsHistory}
 use Rattle.fk_law.specs.Due.{IsDue, IsPushOf, HoldsAll}
 use Rattle.fk_law.specs.Rising.{CommitsRiseOnAPath, CommitsRiseInASession, CommitterHoldsItsPaths, OneOfTwoCommits}
 use Rattle.fk_law.specs.Losing.{IsOthers, IsOwn}
-use Rattle.fk_law.proofs.Numbers.{at_most, above}
 use Rattle.fk_law.proofs.Due.{due}
 use Rattle.fk_law.proofs.Starting.{task_stays}
 use Rattle.fk_law.proofs.Pushing.{push_bound, push_stays, push_request, push_there}
@@ -164,10 +163,10 @@ session_step p t n c k s m j e h l i x z v w = by_old (nat_le t (pushes_of h)) r
 
     by_old : (b : Bool) → nat_le t (pushes_of h) ≡ b → s < t
     by_old true f =
-        let a = its_push_before p t n c k e h l (push_bound p t (e ∷ h) x.push l x.pushed).1 (at_most t (pushes_of h) f) x in
+        let a = its_push_before p t n c k e h l (push_bound p t (e ∷ h) x.push l x.pushed).1 (leb-true t (pushes_of h) f) x in
         let y = its_push_before p s m c j e h l (push_bound p s (e ∷ h) z.push l z.pushed).1 low z in
         session_old p t n c k s m j e h (commits s e.op) refl l i a y z v w
-    by_old false f = omega (arith, above t (pushes_of h) f, low)
+    by_old false f = omega (arith, leb-false t (pushes_of h) f, low)
 
 pub newest_in_a_session : (p : Plan) (t n c k s m j : ℕ) (h : List Entry) → IsHistory p h → BeforeInSession t n c k s m j h
 newest_in_a_session p t n c k s m j [] l = λ x y v w. absurd (false≢true v)

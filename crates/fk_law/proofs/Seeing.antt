@@ -1,7 +1,7 @@
 -- What a follower at work has seen is current, and a close has listed all that its session owns.
 use Rattle.std.specs.Prelude.{◌==◌}
 use Rattle.std.proofs.Common.{◌≡◌, ◌≢◌, ℕ, ◌+◌, ◌++◌, true, false, cond, ◌||◌, List, [], ◌∷◌, refl, sym, ◌∙◌, ap, subst, arith, Option, Some, None}
-use Rattle.std.proofs.lemmas.Bool.{false≢true}
+use Rattle.std.proofs.lemmas.Bool.{false≢true, or_right}
 use Rattle.fk_base.specs.Path.{PathNames, path_cmp, parent, last_name, same_path}
 use Rattle.fk_tree.specs.Edit.{closes}
 use Rattle.fk_tree.specs.Fill.{final_path}
@@ -10,20 +10,21 @@ use Rattle.fk_tree.specs.Sorted.{has_path, rises, in_path_order}
 use Rattle.fk_tree.specs.declared.node.Node.{Node}
 use Rattle.fk_tree.specs.declared.request.Request.{Request}
 use Rattle.fk_tree.specs.declared.request.Request.TheVariants as request
+use Rattle.fk_tree.specs.Rows.{is_of}
 use Rattle.fk_tree.proofs.Order.{path_total, path_exact, and_left, and_right, by_test, same_path_is, same_path_self, child_parts, child_apart}
 use Rattle.fk_tree.proofs.Rising.{below_absent}
+use Rattle.fk_tree.proofs.Looking.{same_flip}
 use Rattle.fk_print.specs.declared.entry.Entry.{Entry}
 use Rattle.fk_print.specs.declared.op.Op.{Op}
 use Rattle.fk_print.specs.declared.op.Op.TheVariants as op
-use Rattle.fk_law_tree.specs.Owners.{is_owned}
 use Rattle.fk_law_tree.proofs.Lists.{ordered_rises}
-use Rattle.fk_law_tree.proofs.Members.{flipped, or_left, or_right}
+use Rattle.fk_law_tree.proofs.Members.{or_left}
 use Rattle.fk_spec.specs.Plan.{Plan}
 use Rattle.fk_spec.specs.Start.{Follows, clock_of, task_of, push_of, request_of, seen_with}
 use Rattle.fk_spec.specs.Locks.{is_push_of, last_grant, grant_in}
 use Rattle.fk_spec.specs.Settling.{settled_of, last_of_session}
 use Rattle.fk_spec.specs.Stored.{committed_of, stored_view}
-use Rattle.fk_spec.specs.Follower.{Follower, Granted, node_in, view_of, next_with, to_lock, to_begin, begin, paths_of}
+use Rattle.fk_spec.specs.Follower.{Follower, Granted, node_in, view_of, next_with, to_lock, to_begin, paths_of}
 use Rattle.fk_spec.specs.Follower as follower
 use Rattle.fk_spec.specs.Function.{Following, place_of, actor}
 use Rattle.fk_spec.specs.Next.{IsHistory}
@@ -58,7 +59,7 @@ rising_once (q ∷ qs) r = (below_absent path_total path_exact q qs (and_left _ 
 
 -- a path isn't its parent, nor is what stands beside it
 beside_once : (d q : PathNames) (n : List ℕ) → q ≡ d ++ n ∷ [] → IsOnce (d ∷ q ∷ [])
-beside_once d q n e = (ap (λ x. same_path d x || false) e ∙ (ap (λ b. b || false) (flipped d (d ++ n ∷ []) ∙ child_apart d n)), (refl, tt))
+beside_once d q n e = (ap (λ x. same_path d x || false) e ∙ (ap (λ b. b || false) (same_flip d (d ++ n ∷ []) ∙ child_apart d n)), (refl, tt))
 
 parent_once : (p : PathNames) → IsOnce (with_parent p)
 parent_once [] = (refl, tt)
@@ -160,14 +161,14 @@ sees_step p n e h l i =
 
 -- what a close lists of its session c with message k
 abbrev ListsIn : Plan → List Entry → ℕ → ℕ → Follower → Type 0
-ListsIn p h c k f = (r : Request) → request_of p c k h ≡ Some r → closes r ≡ true → Locks f.stage → settled_of c h + 1 ≡ k → (q : PathNames) → is_owned c ((stored_view p h).node q) ≡ true → has_path q f.owned ≡ true
+ListsIn p h c k f = (r : Request) → request_of p c k h ≡ Some r → closes r ≡ true → Locks f.stage → settled_of c h + 1 ≡ k → (q : PathNames) → is_of c ((stored_view p h).node q) ≡ true → has_path q f.owned ≡ true
 
 begins_no_list : (seen : ℕ) (r : Request) (f : Follower) → closes r ≡ true → Locks (to_begin seen r f).stage → ⊥
 begins_no_list seen r f c w = subst (λ b. Locks (cond b (record f { stage = follower.Owned }) (to_lock seen r f)).stage) c w
 
 lists_move : (p : Plan) (n : ℕ) (h : List Entry) (r : Request) (o : Op) (f : Follower) → f.session ≢ 0 → IsDue p h o → place_of p n h ≡ Following f → actor o ≡ Some n → closes r ≡ true
-    → (Locks f.stage → (q : PathNames) → is_owned f.session ((stored_view p h).node q) ≡ true → has_path q f.owned ≡ true)
-    → Locks (next_with p h r o f).stage → (q : PathNames) → is_owned f.session ((stored_view p h).node q) ≡ true → has_path q (next_with p h r o f).owned ≡ true
+    → (Locks f.stage → (q : PathNames) → is_of f.session ((stored_view p h).node q) ≡ true → has_path q f.owned ≡ true)
+    → Locks (next_with p h r o f).stage → (q : PathNames) → is_of f.session ((stored_view p h).node q) ≡ true → has_path q (next_with p h r o f).owned ≡ true
 lists_move p n h r (op.SessionNew m) f z d b a c i w q v = absurd (begins_no_list (seen_with f.session f.k h) r (record f { last = last_of_session f.session h }) c w)
 lists_move p n h r (op.Owned m count) f z d b a c i w q v = owned_has f.session (committed_of p h) q z ∙ v
 lists_move p n h r (op.LockOk m path) f z d b a c i w q v = i (subst Locks (sym (subst (λ y. y.stage ≡ follower.Lock path) (same_follower p h m n d.0 f d.1 a b) d.2)) tt) q v

@@ -151,7 +151,7 @@ pub task_at_most_next : (p : Plan) (n c k : ℕ) (h : List Entry) → IsHistory 
 task_at_most_next p n c k h l b = let r = reached p n c k h l b in let s = settled_between p c h l in omega (arith, r.1, s.0)
 
 -- what is settled was sent
-counts_sent : (o : Option Origin) (n : ℕ) → n ≤ count_sent o n
+pub counts_sent : (o : Option Origin) (n : ℕ) → n ≤ count_sent o n
 counts_sent o n = grind arith
 
 sent_next : (c : ℕ) (h : List Entry) (s : Settling) → IsNext h s → ((m k : ℕ) → task_of m h ≡ Some (Follows c k) → k ≤ sends_of c h) → settled_of c h ≤ sends_of c h → count_settling c (Some s) (settled_of c h) ≤ sends_of c h

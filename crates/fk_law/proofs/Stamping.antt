@@ -9,11 +9,11 @@ use Rattle.fk_tree.specs.Sorted.{has_path}
 use Rattle.fk_tree.specs.Touch.{edited_paths}
 use Rattle.fk_tree.specs.declared.applied.Applied.{Applied}
 use Rattle.fk_tree.proofs.Order.{by_test, same_path_is}
+use Rattle.fk_tree.proofs.Looking.{same_flip}
 use Rattle.fk_print.specs.declared.entry.Entry.{Entry}
 use Rattle.fk_print.specs.declared.op.Op.{Op}
 use Rattle.fk_print.specs.declared.op.Op.TheVariants as op
 use Rattle.fk_law_tree.proofs.Counting.{unedited_stays}
-use Rattle.fk_law_tree.proofs.Members.{flipped}
 use Rattle.fk_spec.specs.Plan.{Plan}
 use Rattle.fk_spec.specs.Settling.{is_committed, commits, mark_of, mark_in, swept_of}
 use Rattle.fk_spec.specs.Stored.{committed_of, committed_in, committed_as, applied_as, with_filled, stamp_of, stamp_in, up_to}
@@ -83,7 +83,7 @@ stamped_moves p n t h (op.PutOk m u path) s d b c i w a e q j v =
     let k : t ≡ u = grind arith in
     let x : has_path q (Left (to_put d.0)) ≡ false = subst (λ z. has_path q (Left (after_put z)) ≡ false) g v in
     let y : Puts (to_put d.0) = subst (λ z. Puts (after_put z)) g w in
-    left_to_put t d.0 q (stamp_in q (op.PutOk m u path) (stamp_of q h)) (put_stamped p t h path d.0 a q (stamp_in q (op.PutOk m u path) (stamp_of q h)) (subst (StampedSo p t h) g i) e j (stamp_grows q (op.PutOk m u path) (stamp_of q h)) (λ f. at_path (flipped path q ∙ f) k)) y x
+    left_to_put t d.0 q (stamp_in q (op.PutOk m u path) (stamp_of q h)) (put_stamped p t h path d.0 a q (stamp_in q (op.PutOk m u path) (stamp_of q h)) (subst (StampedSo p t h) g i) e j (stamp_grows q (op.PutOk m u path) (stamp_of q h)) (λ f. at_path (same_flip path q ∙ f) k)) y x
   where
     at_path : same_path path q ≡ true → t ≡ u → t ≤ cond (same_path path q) (max u (stamp_of q h)) (stamp_of q h)
     at_path f k = rw f (omega (arith, k))

@@ -1,6 +1,5 @@
 -- Functions: their numbers and their tasks.
-use Rattle.std.specs.Prelude.{◌==◌}
-use Rattle.std.proofs.Common.{◌≡◌, ◌≢◌, ◌+◌, ℕ, ◌≤◌, ◌++◌, true, false, cond, List, [], ◌∷◌, refl, sym, ◌∙◌, ap, subst, arith, Option, Some, None}
+use Rattle.std.proofs.Common.{◌≡◌, ◌≢◌, ◌+◌, ℕ, ◌≤◌, ◌++◌, false, cond, List, [], ◌∷◌, refl, sym, ◌∙◌, ap, subst, arith, Option, Some, None}
 use Rattle.std.proofs.lemmas.Bool.Decides.{nat_tests}
 use Rattle.fk_print.specs.declared.entry.Entry.{Entry}
 use Rattle.fk_print.specs.declared.op.Op.{Op}
@@ -13,9 +12,11 @@ use Rattle.fk_spec.specs.Function.{Place, Absent, Following, Leading, Telling, B
 use Rattle.fk_spec.specs.Next.{IsHistory}
 use Rattle.fk_law.specs.Due.{IsDue}
 use Rattle.fk_spec.specs.Lanes.{notifies, removed_by, removed_in, notes_of, note_count}
+use Rattle.fk_spec.specs.Client.{client_in}
 use Rattle.fk_law.specs.Functions.{IsFor, TellerWorksAtOrBelowTheHead}
 use Rattle.fk_law.proofs.Due.{due}
 use Rattle.fk_law.proofs.Moving.{place_step, moved_follower, moved_leader}
+use Rattle.fk_law.proofs.Numbers.{itself}
 
 -- tasks ----------------------------------------------------------------------------------------------
 
@@ -56,8 +57,11 @@ moved_for p h o t (Leading s stage) i = moved_leader p h o s stage (IsFor t) tt 
 moved_for p h o t (Telling w s stage) i = grind arith
 moved_for p h o t (Beating c stage) i = grind arith
 
-no_start : (o : Op) (n : ℕ) → actor o ≡ Some n → started_in o ≡ None
+pub no_start : (o : Op) (n : ℕ) → actor o ≡ Some n → started_in o ≡ None
 no_start o n e = grind arith
+
+pub no_client : (o : Op) (n : ℕ) → actor o ≡ Some n → client_in o ≡ None
+no_client o n e = grind arith
 
 task_started : (n : ℕ) (o : Op) (s : Start) (t : Option Task) → started_in o ≡ Some s → s.function ≡ n → or_else (task_here n (started_in o)) t ≡ Some s.task
 task_started n o s t e f = grind (arith, nat_tests)
@@ -97,9 +101,6 @@ leader_task p n h t s l e = subst (IsFor (task_of n h)) e (place_for p n h l)
 
 -- moves ----------------------------------------------------------------------------------------------
 
-own_test : (n : ℕ) → (n == n) ≡ true
-own_test n = grind (arith, nat_tests)
-
 start_line : (o : Op) (s : Start) → started_in o ≡ Some s → actor o ≡ None
 start_line o s e = grind arith
 
@@ -107,11 +108,11 @@ start_line o s e = grind arith
 pub start_places_it : (p : Plan) (e : Entry) (h : List Entry) (s : Start) → started_in e.op ≡ Some s → place_of p s.function (e ∷ h) ≡ placed p h s.task
 start_places_it p e h s i =
     ap (λ a. place_by p s.function h e.op a (place_of p s.function h)) (start_line e.op s i)
-    ∙ (ap (λ o. started_at p s.function h o (place_of p s.function h)) i ∙ ap (λ b. cond b (placed p h s.task) (place_of p s.function h)) (own_test s.function))
+    ∙ (ap (λ o. started_at p s.function h o (place_of p s.function h)) i ∙ ap (λ b. cond b (placed p h s.task) (place_of p s.function h)) (itself s.function))
 
 -- a function's own operation moves it
 pub own_operation_moves_it : (p : Plan) (n : ℕ) (e : Entry) (h : List Entry) → actor e.op ≡ Some n → place_of p n (e ∷ h) ≡ moved p h e.op (place_of p n h)
-own_operation_moves_it p n e h i = ap (λ a. place_by p n h e.op a (place_of p n h)) i ∙ ap (λ b. cond b (moved p h e.op (place_of p n h)) (place_of p n h)) (own_test n)
+own_operation_moves_it p n e h i = ap (λ a. place_by p n h e.op a (place_of p n h)) i ∙ ap (λ b. cond b (moved p h e.op (place_of p n h)) (place_of p n h)) (itself n)
 
 start_is_next : (p : Plan) (h : List Entry) (o : Op) (s : Start) → IsDue p h o → started_in o ≡ Some s → s.function ≡ starts_of h + 1
 start_is_next p h o s d e = grind arith

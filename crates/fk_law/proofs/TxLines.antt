@@ -3,6 +3,7 @@ use Rattle.std.specs.Prelude.{nat_eq}
 use Rattle.std.proofs.Common.{◌≡◌, ◌≢◌, ℕ, zero, suc, ◌≤◌, Bool, true, false, List, [], ◌∷◌, max, refl, sym, ◌∙◌, ap, subst, arith, Option, Some, None, if◌then◌else◌}
 use Rattle.std.proofs.lemmas.Bool.{false≢true, cond_both}
 use Rattle.std.proofs.lemmas.Bool.Decides.{nat_tests}
+use Rattle.std.proofs.lemmas.Option.{same_Some}
 use Rattle.fk_base.specs.Path.{PathNames, same_path}
 use Rattle.fk_tree.specs.declared.applied.Applied.{Applied}
 use Rattle.fk_print.specs.declared.entry.Entry.{Entry}
@@ -31,9 +32,6 @@ use Rattle.fk_law.proofs.Sending.{committed_is_filled, tx_is, was_committed}
 use Rattle.fk_law.proofs.Growing.{committed_stays}
 use Rattle.fk_law.proofs.Printing.{txs_are_the_commits}
 use Rattle.fk_law.proofs.Publishing.{of_push, greatest_at_most, published_at}
-
-some_same : {A : Type 0} → (x y : A) → Some x ≡ Some y → x ≡ y
-some_same x y e = cc
 
 -- Published as committed. -----------------------------------------------------------------------------
 
@@ -102,7 +100,7 @@ some_step p h c k t m a (Some y) e q s r b f i =
     (λ g. let w = for_it c k y g in ap (λ z. Some (printed_of z)) (f y refl w.0 w.1)) (λ g. i (by_last g (nat_eq t (suc m)) refl))
   where
     same : (u v : ℕ) → u ≡ v → committed_as p u h ≡ Some a → committed_as p v h ≡ Some y → a ≡ y
-    same u v w x z = some_same a y (sym (subst (λ n. committed_as p n h ≡ Some a) w x) ∙ z)
+    same u v w x z = same_Some a y (sym (subst (λ n. committed_as p n h ≡ Some a) w x) ∙ z)
 
     by_last : is_tx_for c k (printed_of y) ≡ false → (z : Bool) → nat_eq t (suc m) ≡ z → t ≤ m
     by_last g true w = let n = same t (suc m) (grind (arith, nat_tests)) q e in absurd (false≢true (sym g ∙ it_is c k y (ap (λ z. z.session) (sym n) ∙ s) (ap (λ z. z.k) (sym n) ∙ r)))
@@ -128,7 +126,7 @@ published_request_has_its_line p t n c k h a l i q b =
     only u y w s r =
         let z = its_commit p u h y c k l w s r in
         let e = one_commit_for_each_request p t n u z.0 c k h l i z.1 (was_committed p t h a q) (was_committed p u h y w) in
-        some_same y a (sym w ∙ (ap (λ v. committed_as p v h) (sym e) ∙ q))
+        same_Some y a (sym w ∙ (ap (λ v. committed_as p v h) (sym e) ∙ q))
 
 pub uncommitted_request_has_no_line : UncommittedRequestHasNoLine
 uncommitted_request_has_no_line p c k h l f = ap (tx_for c k) (txs_are_the_commits p h l) ∙ none_for p h c k (mark_of h) none
@@ -157,7 +155,7 @@ with_step p h t m a (Some y) e q b i = by_number (nat_eq y.tx t) refl
     number = tx_is (suc m) (committed_of p h) y e
 
     by_number : (z : Bool) → nat_eq y.tx t ≡ z → (if z then Some (printed_of y) else tx_with t (all_printed (numbered m (committed_of p h)))) ≡ Some (printed_of a)
-    by_number true w = let n = number in let s : suc m ≡ t = grind (arith, nat_tests) in ap (λ v. Some (printed_of v)) (some_same y a (sym e ∙ subst (λ n. committed_as p n h ≡ Some a) (sym s) q))
+    by_number true w = let n = number in let s : suc m ≡ t = grind (arith, nat_tests) in ap (λ v. Some (printed_of v)) (same_Some y a (sym e ∙ subst (λ n. committed_as p n h ≡ Some a) (sym s) q))
     by_number false w = let n = number in let s : t ≢ suc m = grind (arith, nat_tests) in i (omega (arith, b, s))
 
 with_for : (p : Plan) (h : List Entry) (t m : ℕ) (a : Applied) → committed_as p t h ≡ Some a → 1 ≤ t → t ≤ m → tx_with t (all_printed (numbered m (committed_of p h))) ≡ Some (printed_of a)

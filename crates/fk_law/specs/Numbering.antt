@@ -5,10 +5,10 @@ use Rattle.fk_tree.specs.Edit.{view_after}
 use Rattle.fk_tree.specs.Sorted.{has_path}
 use Rattle.fk_tree.specs.Touch.{edited_paths}
 use Rattle.fk_tree.specs.declared.applied.Applied.{Applied}
+use Rattle.fk_tree.specs.Rows.{is_of}
 use Rattle.fk_print.specs.declared.entry.Entry.{Entry}
 use Rattle.fk_law_tree.specs.Fitting.{Fits}
 use Rattle.fk_law_tree.specs.Locking.{ListsOwned}
-use Rattle.fk_law_tree.specs.Owners.{is_owned}
 use Rattle.fk_spec.specs.Plan.{Plan}
 use Rattle.fk_spec.specs.Start.{Pushed, pushed_of}
 use Rattle.fk_spec.specs.Locks.{granted}
@@ -57,4 +57,4 @@ CloseListsAll = (p : Plan) (t n : ℕ) (h : List Entry) (y : Pushed) → IsHisto
 
 -- A closed session owns no node.
 abbrev pub ClosedSessionOwnsNothing : Type 0
-ClosedSessionOwnsNothing = (p : Plan) (c : ℕ) (h : List Entry) (q : PathNames) → IsHistory p h → 1 ≤ c → (stored_view p h).closed c ≡ true → is_owned c ((stored_view p h).node q) ≡ false
+ClosedSessionOwnsNothing = (p : Plan) (c : ℕ) (h : List Entry) (q : PathNames) → IsHistory p h → 1 ≤ c → (stored_view p h).closed c ≡ true → is_of c ((stored_view p h).node q) ≡ false

@@ -6,8 +6,8 @@ use Rattle.fk_tree.specs.Edit.{closes}
 use Rattle.fk_tree.specs.Locks.{lock_paths}
 use Rattle.fk_tree.specs.Sorted.{has_path}
 use Rattle.fk_tree.specs.declared.request.Request.{Request}
+use Rattle.fk_tree.specs.Rows.{is_of}
 use Rattle.fk_print.specs.declared.entry.Entry.{Entry}
-use Rattle.fk_law_tree.specs.Owners.{is_owned}
 use Rattle.fk_spec.specs.Plan.{Plan, item_after}
 use Rattle.fk_spec.specs.Start.{request_of, seen_with}
 use Rattle.fk_spec.specs.Locks.{last_grant, granted}
@@ -73,4 +73,4 @@ GrantsAreTheFirstLockPaths =
 abbrev pub OwnedListIsComplete : Type 0
 OwnedListIsComplete =
     (p : Plan) (n : ℕ) (h : List Entry) (f : Follower) (r : Request) (path : PathNames) → IsHistory p h → place_of p n h ≡ Following f → request_of p f.session f.k h ≡ Some r → closes r ≡ true → Locks f.stage
-    → settled_of f.session h + 1 ≡ f.k → is_owned f.session ((stored_view p h).node path) ≡ true → has_path path f.owned ≡ true
+    → settled_of f.session h + 1 ≡ f.k → is_of f.session ((stored_view p h).node path) ≡ true → has_path path f.owned ≡ true

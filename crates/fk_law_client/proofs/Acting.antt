@@ -2,6 +2,7 @@
 use Rattle.std.specs.Prelude.{if◌then◌else◌, max}
 use Rattle.std.proofs.Common.{◌≡◌, ℕ, ◌+◌, ◌≤◌, ◌⊎◌, inl, inr, Bool, true, false, List, [], ◌∷◌, refl, sym, ◌∙◌, subst, Option, Some, None}
 use Rattle.std.proofs.lemmas.Bool.{false≢true}
+use Rattle.std.proofs.lemmas.Option.{same_Some, none-some}
 use Rattle.fk_print.specs.declared.entry.Entry.{Entry}
 use Rattle.fk_print.specs.declared.op.Op.{Op}
 use Rattle.fk_print.specs.declared.op.Op.TheVariants as op
@@ -12,8 +13,8 @@ use Rattle.fk_spec.specs.Sight.{sight_of, Sight}
 use Rattle.fk_spec.specs.Client.{number_looked_for, by_result, is_unfit, is_write, target_with, target_sent, target_of, all_go_on, is_none_sent, may_begin, client_in, client_of, Sent, Reading, Client, Target}
 use Rattle.fk_spec.specs.Replies.{verb_asked}
 use Rattle.fk_spec.specs.Next.{IsHistory}
+use Rattle.fk_law_watch.proofs.Reading.{none_sent}
 use Rattle.fk_law_client.specs.Operations.{Begins, BeginsWrite, BeginsRead, WaitsToRegister, OperationSays}
-use Rattle.fk_law_client.proofs.Messages.{some_same, none_some}
 use Rattle.fk_law_client.proofs.Operating.{client_operations_say}
 
 abbrev pub IsUpTo : ℕ → Option ℕ → Type 0
@@ -68,20 +69,16 @@ head_up (s ∷ ss) t mark q b = by_number (number_looked_for s.result) q
   where
     by_number : (o : Option ℕ) → target_with s.command o ≡ Some t → IsUpTo mark o
     by_number None e = tt
-    by_number (Some n) e = subst (λ z. z.number ≤ mark) (sym (some_same (record { command = s.command; number = n }) t e)) b
+    by_number (Some n) e = subst (λ z. z.number ≤ mark) (sym (same_Some (record { command = s.command; number = n }) t e)) b
 
 -- what is looked for is the number of a read that isn't looked at yet, else that of the first reply
 target_looks : (s : Sight) (x : Client Sent) (r : Option Reading) (t : Target) → x.reading ≡ r → target_of by_result s.seen x r ≡ Some t → t.number ≤ s.mark → LooksSo x s.seen s.mark
-target_looks s x None t e q b = ((λ _. head_up x.sent t s.mark q b), λ r f. absurd (none_some r (sym e ∙ f)))
-target_looks s x (Some r) t e q b = ((λ f. absurd (none_some r (sym f ∙ e))), λ z f g. let y = some_same r z (sym e ∙ f) in subst (λ v. max s.seen v.stamp ≤ s.mark) y (by_flag r.looked (subst (λ v. v.looked ≡ false) (sym y) g) q))
+target_looks s x None t e q b = ((λ _. head_up x.sent t s.mark q b), λ r f. absurd (none-some r (sym e ∙ f)))
+target_looks s x (Some r) t e q b = ((λ f. absurd (none-some r (sym f ∙ e))), λ z f g. let y = same_Some r z (sym e ∙ f) in subst (λ v. max s.seen v.stamp ≤ s.mark) y (by_flag r.looked (subst (λ v. v.looked ≡ false) (sym y) g) q))
   where
     by_flag : (w : Bool) → w ≡ false → (if w then target_sent by_result x.sent else Some (record { command = x.begun + 1; number = max s.seen r.stamp })) ≡ Some t → max s.seen r.stamp ≤ s.mark
     by_flag true g u = absurd (false≢true (sym g))
-    by_flag false g u = subst (λ v. v.number ≤ s.mark) (sym (some_same (record { command = x.begun + 1; number = max s.seen r.stamp }) t u)) b
-
-none_sent : (ss : List Sent) → is_none_sent ss ≡ true → ss ≡ []
-none_sent [] e = refl
-none_sent (s ∷ ss) e = absurd (false≢true e)
+    by_flag false g u = subst (λ v. v.number ≤ s.mark) (sym (same_Some (record { command = x.begun + 1; number = max s.seen r.stamp }) t u)) b
 
 -- what a command that may begin leaves unanswered
 may_leave : (p : Plan) (c i : ℕ) (h : List Entry) (a : Ask) (ss : List Sent) → asked p c i ≡ Some a → may_begin by_result (asks_in p c) a ss ≡ true → (is_write (verb_asked (asked p c i)) ≡ true) ⊎ (ss ≡ [])

@@ -1,7 +1,7 @@
 -- Unfit commands, and they alone, are refused for their arguments.
 use Rattle.std.specs.Prelude.{◌==◌, ◌&&◌}
 use Rattle.std.proofs.Common.{◌≡◌, ℕ, ◌+◌, ◌++◌, Bool, true, false, List, [], ◌∷◌, refl, sym, ◌∙◌, ap, subst, Option, Some, None}
-use Rattle.std.proofs.lemmas.Bool.{false≢true, cond_both}
+use Rattle.std.proofs.lemmas.Bool.{false≢true, cond_both, eqb-true}
 use Rattle.fk_base.specs.declared.code.Code.TheVariants as code
 use Rattle.fk_tree.specs.Apply.{reply_of}
 use Rattle.fk_tree.specs.Ask.{answer_from}
@@ -11,6 +11,7 @@ use Rattle.fk_tree.specs.declared.reply.Answer.{Answer}
 use Rattle.fk_tree.specs.declared.reply.Answer.TheVariants as answer
 use Rattle.fk_tree.specs.declared.reply.Reply.{Reply}
 use Rattle.fk_tree.specs.declared.reply.Reply.TheVariants as reply
+use Rattle.fk_tree.proofs.Order.{and_right}
 use Rattle.fk_print.specs.declared.entry.Entry.{Entry}
 use Rattle.fk_print.specs.declared.line.Line.{Line}
 use Rattle.fk_print.specs.declared.line.Line.TheVariants as line
@@ -32,7 +33,6 @@ use Rattle.fk_spec.specs.Next.{IsHistory, next_lines, lines_of_client, tx_lines}
 use Rattle.fk_law_watch.proofs.Reading.{next_is}
 use Rattle.fk_law_client.specs.Unfit.{UnfitIsRefused, UnfitCommandsAreRefused}
 use Rattle.fk_law_client.proofs.Acting.{ActsAs, IsLooked, ReadsTree, entry_acts}
-use Rattle.fk_law_client.proofs.Messages.{same_number}
 
 abbrev AllFit : Plan → List Line → Type 0
 AllFit p [] = Unit {0}
@@ -69,13 +69,9 @@ open_fits u (Settled o) e i = i
 open_fits u (Expired at) e i = i
 open_fits u (Plain cd) e i = absurd (false≢true e)
 
-right : (a b : Bool) → (a && b) ≡ true → b ≡ true
-right true b e = e
-right false b e = absurd (false≢true e)
-
 settled_so : (p : Plan) (c k : ℕ) (o : Outcome) (ss : List Sent) → AllSo p c ss → AllSo p c (with_told by_result k (Settled o) ss)
 settled_so p c k o [] i = tt
-settled_so p c k o (s ∷ ss) i = cond_both ((s.k == k) && is_open s.result) (record s { result = Settled o } ∷ ss) (s ∷ with_told by_result k (Settled o) ss) (AllSo p c) (λ e. (open_fits (is_unfit (asked p c s.command)) s.result (right (s.k == k) (is_open s.result) e) i.0, i.1)) (λ _. (i.0, settled_so p c k o ss i.1))
+settled_so p c k o (s ∷ ss) i = cond_both ((s.k == k) && is_open s.result) (record s { result = Settled o } ∷ ss) (s ∷ with_told by_result k (Settled o) ss) (AllSo p c) (λ e. (open_fits (is_unfit (asked p c s.command)) s.result (and_right (s.k == k) (is_open s.result) e) i.0, i.1)) (λ _. (i.0, settled_so p c k o ss i.1))
 
 kept_so : (p : Plan) (c k : ℕ) (o : Option Outcome) (x : Client Sent) → AllSo p c x.sent → AllSo p c (settle_with by_result k (settled_as o) x).sent
 kept_so p c k None x i = i
@@ -232,7 +228,7 @@ own_stands p c e h l q s = let z = acted_so p c (seen_by c h) (mark_of h) h (cli
 
 client_stands : (p : Plan) (c : ℕ) (e : Entry) (h : List Entry) (o : Option ℕ) → client_in e.op ≡ o → (client_in e.op ≡ Some c → StandsSo p c (flushed by_result (acted_by (sight_of p c h) e.op (client_of p c h)))) → StandsSo p c (client_of p c h) → StandsSo p c (client_by (sight_of p c h) o e.op (client_of p c h))
 client_stands p c e h None q f w = w
-client_stands p c e h (Some s) q f w = cond_both (s == c) (flushed by_result (acted_by (sight_of p c h) e.op (client_of p c h))) (client_of p c h) (StandsSo p c) (λ t. f (q ∙ ap Some (same_number s c t))) (λ _. w)
+client_stands p c e h (Some s) q f w = cond_both (s == c) (flushed by_result (acted_by (sight_of p c h) e.op (client_of p c h))) (client_of p c h) (StandsSo p c) (λ t. f (q ∙ ap Some (eqb-true s c t))) (λ _. w)
 
 stands : (p : Plan) (c : ℕ) (h : List Entry) → IsHistory p h → StandsSo p c (client_of p c h)
 stands p c [] l = (tt, tt)

@@ -1,8 +1,9 @@
 -- Where a client has the commands from that it keeps.
 use Rattle.std.specs.Prelude.{◌==◌, ◌&&◌, if◌then◌else◌}
 use Rattle.std.proofs.Common.{◌≡◌, ℕ, ◌+◌, ◌++◌, ◌⊎◌, inl, inr, Bool, true, false, List, [], ◌∷◌, refl, sym, ◌∙◌, ap, subst, Option, Some, None}
-use Rattle.std.proofs.lemmas.Bool.{false≢true, cond_both}
+use Rattle.std.proofs.lemmas.Bool.{false≢true, cond_both, eqb-true}
 use Rattle.fk_base.specs.declared.code.Code.TheVariants as code
+use Rattle.fk_tree.proofs.Order.{and_right}
 use Rattle.fk_print.specs.declared.entry.Entry.{Entry}
 use Rattle.fk_print.specs.declared.op.Op.{Op}
 use Rattle.fk_print.specs.declared.op.Op.TheVariants as op
@@ -13,7 +14,6 @@ use Rattle.fk_spec.specs.Sight.{sight_of}
 use Rattle.fk_spec.specs.Client.{acted_by, by_result, client_by, client_in, client_of, close_if, flushed, is_close, is_open, is_ready, is_unfit, kept_outcome, local_result, looked, looked_at, looked_for, registers, settle_with, settled_as, with_told, without_ready, Client, Open, Plain, Reading, Sent, Settled}
 use Rattle.fk_law_client.specs.Lines.{IsAmong}
 use Rattle.fk_law_client.specs.Kept.{KeptFrom, Before, Told, Begun, KeptCommandsHaveTheirSource}
-use Rattle.fk_law_client.proofs.Messages.{same_number}
 use Rattle.fk_law.proofs.Numbers.{itself}
 
 -- A client after an entry is as it was, or as its own operation leaves it.
@@ -22,7 +22,7 @@ client_after p c e h P old own = by_client (client_in e.op) refl
   where
     by_client : (o : Option ℕ) → client_in e.op ≡ o → P (client_by (sight_of p c h) o e.op (client_of p c h))
     by_client None q = old
-    by_client (Some s) q = cond_both (s == c) (flushed by_result (acted_by (sight_of p c h) e.op (client_of p c h))) (client_of p c h) P (λ t. own (q ∙ ap Some (same_number s c t))) (λ _. old)
+    by_client (Some s) q = cond_both (s == c) (flushed by_result (acted_by (sight_of p c h) e.op (client_of p c h))) (client_of p c h) P (λ t. own (q ∙ ap Some (eqb-true s c t))) (λ _. old)
 
 pub among_unready : (s : Sent) (ss : List Sent) → IsAmong s (without_ready by_result ss) → IsAmong s ss
 among_unready s [] i = i
@@ -49,10 +49,6 @@ record IsToldNow (w : Outcome) (ss : List Sent) (s : Sent) : Type 0 where
   pub unknown : is_open sent.result ≡ true
   pub told : s ≡ record sent { result = Settled w }
 
-right : (a b : Bool) → (a && b) ≡ true → b ≡ true
-right true b e = e
-right false b e = absurd (false≢true e)
-
 among_told : (k : ℕ) (w : Outcome) (s : Sent) (ss : List Sent) → IsAmong s (with_told by_result k (Settled w) ss) → IsAmong s ss ⊎ IsToldNow w ss s
 among_told k w s [] i = absurd i
 among_told k w s (x ∷ xs) i = by_test (λ j. among_told k w s xs j) ((x.k == k) && is_open x.result) refl i
@@ -62,7 +58,7 @@ among_told k w s (x ∷ xs) i = by_test (λ j. among_told k w s xs j) ((x.k == k
     further (inr j) = inr (record { sent = j.sent; among = inr j.among; unknown = j.unknown; told = j.told })
 
     by_test : (IsAmong s (with_told by_result k (Settled w) xs) → IsAmong s xs ⊎ IsToldNow w xs s) → (b : Bool) → ((x.k == k) && is_open x.result) ≡ b → IsAmong s (if b then record x { result = Settled w } ∷ xs else x ∷ with_told by_result k (Settled w) xs) → IsAmong s (x ∷ xs) ⊎ IsToldNow w (x ∷ xs) s
-    by_test f true e (inl j) = inr (record { sent = x; among = inl refl; unknown = right (x.k == k) (is_open x.result) e; told = j })
+    by_test f true e (inl j) = inr (record { sent = x; among = inl refl; unknown = and_right (x.k == k) (is_open x.result) e; told = j })
     by_test f true e (inr j) = inl (inr j)
     by_test f false e (inl j) = inl (inl j)
     by_test f false e (inr j) = further (f j)

@@ -2,6 +2,7 @@
 use Rattle.std.specs.Prelude.{if◌then◌else◌}
 use Rattle.std.proofs.Common.{◌≡◌, ℕ, ◌+◌, ◌≤◌, ◌++◌, inl, inr, Bool, true, false, List, [], ◌∷◌, refl, sym, ◌∙◌, ap, subst, arith, Option, Some, None}
 use Rattle.std.proofs.lemmas.Bool.{cond_both}
+use Rattle.std.proofs.lemmas.Option.{same_Some, none-some}
 use Rattle.fk_tree.specs.declared.applied.Applied.{Applied}
 use Rattle.fk_print.specs.declared.entry.Entry.{Entry}
 use Rattle.fk_print.specs.declared.line.Line.{Line}
@@ -17,11 +18,11 @@ use Rattle.fk_spec.specs.Sight.{sight_of}
 use Rattle.fk_spec.specs.Client.{by_result, client_in, client_of, contains, is_ready, number_looked_for, number_read, ready_first, registers, target_of, target_sent, target_with, Reading, Sent, Target}
 use Rattle.fk_spec.specs.Replies.{client_lines, first_line, looked_lines, notice_of, own_lines, read_line, read_lines, reply_lines, shown_result, wording}
 use Rattle.fk_spec.specs.PublicLines.{Each, lines_of, lines_onto, txs_among, txs_of}
-use Rattle.fk_spec.specs.Next.{IsHistory, lines_of_client, next_lines, tx_lines}
+use Rattle.fk_spec.specs.Next.{lines_of_client, next_lines, tx_lines}
+use Rattle.fk_law.proofs.Printing.{lines_are}
 use Rattle.fk_law_watch.proofs.Reading.{ReadSo, next_is, reads_so}
 use Rattle.fk_law_client.specs.Operations.{OperationSays}
 use Rattle.fk_law_client.specs.Lines.{IsAmong, IsLookedLine, IsPublication, Ready, Looked, Answers, Failed, LineIs, LineIsAfter, EachAfter, ClientLinesAre, OtherLinesAre, kept_after}
-use Rattle.fk_law_client.proofs.Messages.{some_same, none_some}
 use Rattle.fk_law_client.proofs.Operating.{client_operations_say}
 
 -- Lines one after another. -----------------------------------------------------------------------------
@@ -37,9 +38,6 @@ each_mapped P Q (l ∷ ls) before f k = (f l before k.0, each_mapped P Q ls (l �
 pub each_kept : (P Q : Line → List Line → Type 0) (ls : List Line) → ((l : Line) (b : List Line) → P l b → Q l b) → Each P ls → Each Q ls
 each_kept P Q [] f k = tt
 each_kept P Q (l ∷ ls) f k = (f l ls k.0, each_kept P Q ls f k.1)
-
-pub lines_are : (p : Plan) (e : Entry) (h : List Entry) → IsHistory p (e ∷ h) → e.lines ≡ next_lines p h e.op
-lines_are p e h l = ap (λ x. x.lines) l.1.0 ∙ ap (next_lines p h) (sym (ap (λ x. x.op) l.1.0))
 
 -- The lines of a client. -------------------------------------------------------------------------------
 
@@ -77,7 +75,7 @@ first_are p c i n h o [] e f q b = tt
 first_are p c i n h o (s ∷ ss) e f q b = ((refl, refl, Looked (by_number (number_looked_for s.result) refl q)), tt)
   where
     by_number : (m : Option ℕ) → number_looked_for s.result ≡ m → target_with s.command m ≡ Some (record { command = i; number = n }) → IsLookedLine p c s.command h (shown_result p h s.result)
-    by_number None g w = absurd (none_some _ w)
+    by_number None g w = absurd (none-some _ w)
     by_number (Some m) g w = record {
       kept = s;
       others = ss;
@@ -86,12 +84,12 @@ first_are p c i n h o (s ∷ ss) e f q b = ((refl, refl, Looked (by_number (numb
       command = refl;
       number = m;
       sought = g;
-      published = subst (λ t. t.number ≤ mark_of h) (sym (some_same (record { command = s.command; number = m }) (record { command = i; number = n }) w)) b;
+      published = subst (λ t. t.number ≤ mark_of h) (sym (same_Some (record { command = s.command; number = m }) (record { command = i; number = n }) w)) b;
       shows = refl;
     }
 
 none_sent_sought : (ss : List Sent) (t : Target) → ss ≡ [] → target_sent by_result ss ≡ Some t → ⊥
-none_sent_sought [] t e q = none_some t q
+none_sent_sought [] t e q = none-some t q
 none_sent_sought (s ∷ ss) t e q = grind arith
 
 -- what is looked for while a read is made is the read's number
@@ -100,7 +98,7 @@ read_sought p c i n h r e q = by_flag r.looked q
   where
     by_flag : (b : Bool) → (if b then target_sent by_result (client_of p c h).sent else Some (record { command = (client_of p c h).begun + 1; number = number_read (seen_by c h) r })) ≡ Some (record { command = i; number = n }) → number_read (seen_by c h) r ≡ n
     by_flag true w = absurd (none_sent_sought (client_of p c h).sent (record { command = i; number = n }) e w)
-    by_flag false w = ap (λ t. t.number) (some_same (record { command = (client_of p c h).begun + 1; number = number_read (seen_by c h) r }) (record { command = i; number = n }) w)
+    by_flag false w = ap (λ t. t.number) (same_Some (record { command = (client_of p c h).begun + 1; number = number_read (seen_by c h) r }) (record { command = i; number = n }) w)
 
 looked_are : (p : Plan) (c i n : ℕ) (h : List Entry) (o : Op) (r : Option Reading) → (client_of p c h).reading ≡ r → ReadSo (client_of p c h).sent (seen_by c h) (mark_of h) r → target_of by_result (seen_by c h) (client_of p c h) r ≡ Some (record { command = i; number = n }) → n ≤ mark_of h → AllLinesAre p c h o (looked_lines (wording p c h) (seen_by c h) (client_of p c h) r)
 looked_are p c i n h o None e w q b = first_are p c i n h o (client_of p c h).sent refl e q b
@@ -115,23 +113,23 @@ notice_are p c id h o (Some f) q e g = ((refl, record { watch = id; taken = q; h
 
 set_are : (p : Plan) (c i : ℕ) (h : List Entry) (o : Op) (r : Reading) (x : Option Reading) → x ≡ Some r → (client_of p c h).reading ≡ Some r → i ≡ (client_of p c h).begun + 1 → number_read (seen_by c h) r ≤ mark_of h → AllLinesAre p c h o (read_lines c (asks_in p c) (seen_by c h) i x)
 set_are p c i h o r None e f q b = tt
-set_are p c i h o r (Some y) e f q b = let s = some_same y r e in ((refl, refl, Answers (record { reading = y; made = f ∙ sym e; next = q; published = subst (λ z. number_read (seen_by c h) z ≤ mark_of h) (sym s) b; shows = refl })), tt)
+set_are p c i h o r (Some y) e f q b = let s = same_Some y r e in ((refl, refl, Answers (record { reading = y; made = f ∙ sym e; next = q; published = subst (λ z. number_read (seen_by c h) z ≤ mark_of h) (sym s) b; shows = refl })), tt)
 
 read_published : (c : ℕ) (h : List Entry) (ss : List Sent) (r : Reading) (x : Option Reading) → x ≡ Some r → ReadSo ss (seen_by c h) (mark_of h) x → r.looked ≡ true → number_read (seen_by c h) r ≤ mark_of h
-read_published c h ss r None e w b = absurd (none_some r e)
-read_published c h ss r (Some y) e w b = let s = some_same y r e in subst (λ z. number_read (seen_by c h) z ≤ mark_of h) s (w.1 (subst (λ z. z.looked ≡ true) (sym s) b))
+read_published c h ss r None e w b = absurd (none-some r e)
+read_published c h ss r (Some y) e w b = let s = same_Some y r e in subst (λ z. number_read (seen_by c h) z ≤ mark_of h) s (w.1 (subst (λ z. z.looked ≡ true) (sym s) b))
 
 own_are : (p : Plan) (c : ℕ) (h : List Entry) (o : Op) → client_in o ≡ Some c → OperationSays p c h o → ReadSo (client_of p c h).sent (seen_by c h) (mark_of h) (client_of p c h).reading → AllLinesAre p c h o (own_lines (wording p c h) (sight_of p c h) (client_of p c h) o)
 own_are p c h (op.TakeEvicted d k t) q a w =
     cond_both (client_of p c h).closed [] (line.Expired c t ∷ []) (AllLinesAre p c h (op.TakeEvicted d k t)) (λ _. tt)
-    (λ e. ((refl, record { k = k; taken = ap (λ z. op.TakeEvicted z k t) (some_same d c q); unknown = e }), tt))
+    (λ e. ((refl, record { k = k; taken = ap (λ z. op.TakeEvicted z k t) (same_Some d c q); unknown = e }), tt))
 own_are p c h (op.TakeWatch d id) q a w =
     cond_both (contains id (client_of p c h).held) (notice_of c (firing_of p id h)) [] (AllLinesAre p c h (op.TakeWatch d id))
-    (λ e. notice_are p c id h (op.TakeWatch d id) (firing_of p id h) (ap (λ z. op.TakeWatch z id) (some_same d c q)) e refl) (λ _. tt)
+    (λ e. notice_are p c id h (op.TakeWatch d id) (firing_of p id h) (ap (λ z. op.TakeWatch z id) (same_Some d c q)) e refl) (λ _. tt)
 own_are p c h (op.LookOk d i m) q a w = looked_are p c i a.0.number h (op.LookOk d i m) (client_of p c h).reading refl w a.0.target a.2
 own_are p c h (op.WatchSet d i id) q a w = set_are p c i h (op.WatchSet d i id) a.0.reading (client_of p c h).reading a.0.made a.0.made a.0.next (read_published c h (client_of p c h).sent a.0.reading (client_of p c h).reading a.0.made w a.0.looked)
-own_are p c h (op.ReadFault d i) q a w = ((refl, refl, Failed (record { failed = inl (ap (λ z. op.ReadFault z i) (some_same d c q)); shows = refl })), tt)
-own_are p c h (op.WatchFault d i) q a w = ((refl, refl, Failed (record { failed = inr (ap (λ z. op.WatchFault z i) (some_same d c q)); shows = refl })), tt)
+own_are p c h (op.ReadFault d i) q a w = ((refl, refl, Failed (record { failed = inl (ap (λ z. op.ReadFault z i) (same_Some d c q)); shows = refl })), tt)
+own_are p c h (op.WatchFault d i) q a w = ((refl, refl, Failed (record { failed = inr (ap (λ z. op.WatchFault z i) (same_Some d c q)); shows = refl })), tt)
 own_are p c h o q a w = tt
 
 -- Entries. ---------------------------------------------------------------------------------------------

@@ -2,6 +2,8 @@
 use Rattle.std.specs.Prelude.{◌==◌, if◌then◌else◌, ◌||◌}
 use Rattle.std.proofs.Common.{◌≡◌, ℕ, ◌++◌, Bool, true, false, List, [], ◌∷◌, refl, sym, ◌∙◌, ap, subst, arith, Option, Some, None}
 use Rattle.std.proofs.lemmas.Bool.Decides.{nat_tests}
+use Rattle.std.proofs.lemmas.Option.{same_Some, none-some}
+use Rattle.std.proofs.lemmas.Bool.{eqb-true}
 use Rattle.fk_print.specs.declared.entry.Entry.{Entry}
 use Rattle.fk_print.specs.declared.op.Op.{Op}
 use Rattle.fk_print.specs.declared.op.Op.TheVariants as op
@@ -24,12 +26,6 @@ use Rattle.fk_law.proofs.Starting.{follower_task, leader_task}
 use Rattle.fk_law_watch.specs.Telling.{announces, is_announced}
 use Rattle.fk_law_client.specs.Inboxes.{IsPublishedPush, IsTrueMessage, AreTrueMessages, InboxMessagesAreTrue}
 use Rattle.fk_law_client.proofs.Keeping.{no_commit_kept}
-
-pub some_same : {A : Type 0} → (x y : A) → Some x ≡ Some y → x ≡ y
-some_same x y e = cc
-
-pub none_some : {A : Type 0} → (x : A) → None ≡ Some x → ⊥
-none_some x e = grind arith
 
 -- It stays true. ---------------------------------------------------------------------------------------
 
@@ -58,12 +54,12 @@ messages_stay p c e h (m ∷ ms) l x = (message_stays p c e h m l x.0, messages_
 -- It is true when it is posted. ------------------------------------------------------------------------
 
 done_true : (p : Plan) (c k t : ℕ) (h : List Entry) (m : Message) (b : Bool) → IsPublishedPush p c k t b h → Some (if b then Evicted k t else Done k t) ≡ Some m → IsTrueMessage p c h m
-done_true p c k t h m true x e = subst (IsTrueMessage p c h) (some_same (Evicted k t) m e) x
-done_true p c k t h m false x e = subst (IsTrueMessage p c h) (some_same (Done k t) m e) x
+done_true p c k t h m true x e = subst (IsTrueMessage p c h) (same_Some (Evicted k t) m e) x
+done_true p c k t h m false x e = subst (IsTrueMessage p c h) (same_Some (Done k t) m e) x
 
 kept_true : (p : Plan) (c k : ℕ) (h : List Entry) (m : Message) (o : Option Outcome) → outcome_of c k h ≡ o → (IsApplied o → ⊥) → kept_message k o ≡ Some m → IsTrueMessage p c h m
-kept_true p c k h m None a n e = absurd (none_some m e)
-kept_true p c k h m (Some o) a n e = subst (IsTrueMessage p c h) (some_same (Kept k o) m e) (a, n)
+kept_true p c k h m None a n e = absurd (none-some m e)
+kept_true p c k h m (Some o) a n e = subst (IsTrueMessage p c h) (same_Some (Kept k o) m e) (a, n)
 
 published_by : (p : Plan) (n t c k f : ℕ) (s : leader.Stage) (h : List Entry) → IsHistory p h → place_of p n h ≡ Leading t s → s ≡ leader.Reply → IsPushOf t f c k h → IsPublishedPush p c k t (is_evict (request_of p c k h)) h
 published_by p n t c k f s h l e r i =
@@ -82,29 +78,26 @@ reply_true p n c k h m l d q = by_place (place_of p n h) refl d
     by_place (Telling w t s) e i = absurd i
     by_place (Beating s b) e i = absurd i
 
-pub same_number : (s c : ℕ) → (s == c) ≡ true → s ≡ c
-same_number s c e = grind (arith, nat_tests)
-
 posted_true : (p : Plan) (c : ℕ) (e : Entry) (h : List Entry) (o : Op) (m : Message) → e.op ≡ o → IsHistory p (e ∷ h) → IsDue p h o → posted_in p c h o ≡ Some m → IsTrueMessage p c (e ∷ h) m
 posted_true p c e h (op.Reply n s k) m u l d q = by_test (s == c) refl q
   where
     by_test : (b : Bool) → (s == c) ≡ b → (if b then reply_message (is_evict (request_of p c k h)) k (outcome_of c k h) (task_of n h) else None) ≡ Some m → IsTrueMessage p c (e ∷ h) m
-    by_test true f a = message_stays p c e h m l (reply_true p n c k h m l.0 (subst (λ x. Replies x k h (place_of p n h)) (same_number s c f) d) a)
-    by_test false f a = absurd (none_some m a)
+    by_test true f a = message_stays p c e h m l (reply_true p n c k h m l.0 (subst (λ x. Replies x k h (place_of p n h)) (eqb-true s c f) d) a)
+    by_test false f a = absurd (none-some m a)
 posted_true p c e h (op.Tell n s w) m u l d q = by_test (s == c) q
   where
     told : is_announced w (e ∷ h) ≡ true
     told = rw u (grind (arith, nat_tests))
 
     by_test : (b : Bool) → when b (Watch w) ≡ Some m → IsTrueMessage p c (e ∷ h) m
-    by_test true a = subst (IsTrueMessage p c (e ∷ h)) (some_same (Watch w) m a) told
-    by_test false a = absurd (none_some m a)
+    by_test true a = subst (IsTrueMessage p c (e ∷ h)) (same_Some (Watch w) m a) told
+    by_test false a = absurd (none-some m a)
 posted_true p c e h (op.Ping n s) m u l d q = by_test (s == c) q
   where
     by_test : (b : Bool) → when b (Ping n) ≡ Some m → IsTrueMessage p c (e ∷ h) m
-    by_test true a = subst (IsTrueMessage p c (e ∷ h)) (some_same (Ping n) m a) tt
-    by_test false a = absurd (none_some m a)
-posted_true p c e h o m u l d q = absurd (none_some m q)
+    by_test true a = subst (IsTrueMessage p c (e ∷ h)) (same_Some (Ping n) m a) tt
+    by_test false a = absurd (none-some m a)
+posted_true p c e h o m u l d q = absurd (none-some m q)
 
 -- Inboxes. ---------------------------------------------------------------------------------------------
 

@@ -1,8 +1,9 @@
 -- What each operation of a client says: the only place where the rule of a client's next operation is opened.
 use Rattle.std.specs.Prelude.{nat_lt, if◌then◌else◌}
 use Rattle.std.proofs.Common.{◌≡◌, ℕ, ◌+◌, ◌<◌, ◌≤◌, inl, inr, Bool, true, false, List, [], ◌∷◌, refl, sym, ◌∙◌, ap, subst, arith, Option, Some, None}
-use Rattle.std.proofs.lemmas.Bool.{cond_both}
+use Rattle.std.proofs.lemmas.Bool.{cond_both, ltb-false}
 use Rattle.std.proofs.lemmas.Bool.Decides.{nat_tests}
+use Rattle.std.proofs.lemmas.Option.{none-some}
 use Rattle.fk_tree.specs.Ask.{path_asked}
 use Rattle.fk_tree.specs.Watch.{kind_asked}
 use Rattle.fk_print.specs.declared.entry.Entry.{Entry}
@@ -22,36 +23,30 @@ use Rattle.fk_spec.specs.Sight.{first_message, watch_number, sight_of}
 use Rattle.fk_spec.specs.Client.{by_result, number_read, target_sent, target_of, pong_or, take_op, take_or, held_op, look_op, look_or, register_for, register_asked, watch_or, may_begin, local_if, begin_op, begin_asked, failed_op, client_in, client_of, client_op, Reading, Target}
 use Rattle.fk_spec.specs.Next.{next_op, follow_op, lead_op, tell_op, crash_op}
 use Rattle.fk_law_watch.proofs.Registering.{NoClients, function_none, follow_none, lead_none, tell_none, crash_none, fault_none}
+use Rattle.fk_law_watch.proofs.Reading.{failed_in, turned_some}
 use Rattle.fk_law_client.specs.Operations.{target_by, held_in_epoch, HasNoMessage, LooksFor, WaitsToRegister, Begins, OperationSays, ClientOperationsSay}
-use Rattle.fk_law_client.proofs.Messages.{none_some}
 
 -- this operation is of client c, and says so
 abbrev Says : Plan → ℕ → List Entry → Op → Type 0
 Says p c h o = OperationSays p c h o × ((d : ℕ) → client_in o ≡ Some d → d ≡ c)
 
-its : (c d : ℕ) → Some c ≡ Some d → d ≡ c
-its c d e = grind arith
-
-not_below : (a b : ℕ) → nat_lt a b ≡ false → b ≤ a
-not_below a b e = grind (arith, nat_tests)
-
 below : (a b : ℕ) → nat_lt a b ≡ true → a < b
 below a b e = grind (arith, nat_tests)
 
 idle_says : (p : Plan) (c : ℕ) (h : List Entry) → Says p c h op.Idle
-idle_says p c h = (tt, λ d e. absurd (none_some d e))
+idle_says p c h = (tt, λ d e. absurd (none-some d e))
 
 -- Looks. -----------------------------------------------------------------------------------------------
 
 held_says : (p : Plan) (c i : ℕ) (h : List Entry) (f : LooksFor p c i h) (o : Option ℕ) → f.number ≤ mark_of h → held_in_epoch p c h ≡ o → Says p c h (held_op c i (mark_of h) o)
-held_says p c i h f None b e = ((f, refl, b, e), its c)
-held_says p c i h f (Some id) b e = ((f, refl, b, e), its c)
+held_says p c i h f None b e = ((f, refl, b, e), turned_some c)
+held_says p c i h f (Some id) b e = ((f, refl, b, e), turned_some c)
 
 look_says : (p : Plan) (c : ℕ) (h : List Entry) (t : Target) → target_by p c h ≡ Some t → HasNoMessage p c h → Says p c h (look_op (sight_of p c h) (client_of p c h).held t)
 look_says p c h t q m =
     cond_both (nat_lt (mark_of h) t.number) (op.LookBehind c t.command (mark_of h)) (held_op c t.command (mark_of h) (held_in_epoch p c h)) (Says p c h)
-    (λ e. ((looks, refl, below (mark_of h) t.number e), its c))
-    (λ e. held_says p c t.command h looks (held_in_epoch p c h) (not_below (mark_of h) t.number e) refl)
+    (λ e. ((looks, refl, below (mark_of h) t.number e), turned_some c))
+    (λ e. held_says p c t.command h looks (held_in_epoch p c h) (ltb-false (mark_of h) t.number e) refl)
   where
     looks : LooksFor p c t.command h
     looks = record { number = t.number; target = q; first = m }
@@ -68,13 +63,13 @@ read_looked p c h r q = by_flag r.looked refl q
   where
     by_flag : (b : Bool) → r.looked ≡ b → (if b then target_sent by_result (client_of p c h).sent else Some (record { command = (client_of p c h).begun + 1; number = number_read (seen_by c h) r })) ≡ None → r.looked ≡ true
     by_flag true e v = e
-    by_flag false e v = absurd (none_some (record { command = (client_of p c h).begun + 1; number = number_read (seen_by c h) r }) (sym v))
+    by_flag false e v = absurd (none-some (record { command = (client_of p c h).begun + 1; number = number_read (seen_by c h) r }) (sym v))
 
 register_says : (p : Plan) (c i n : ℕ) (h : List Entry) (w : WaitsToRegister p c i h) → n ≡ number_read (seen_by c h) w.reading → Says p c h (register_for (sight_of p c h) i n (Reads w.query w.watch))
 register_says p c i n h w q =
     cond_both (nat_lt n (last_sweep p (path_asked w.query) h)) (op.WatchSwept c i (last_sweep p (path_asked w.query) h)) (op.WatchSet c i (watch_number p c h (path_asked w.query) (kind_asked w.query))) (Says p c h)
-    (λ e. ((w, subst (λ z. z < last_sweep p (path_asked w.query) h) q (below n (last_sweep p (path_asked w.query) h) e), refl), its c))
-    (λ e. ((w, subst (λ z. last_sweep p (path_asked w.query) h ≤ z) q (not_below n (last_sweep p (path_asked w.query) h) e), refl), its c))
+    (λ e. ((w, subst (λ z. z < last_sweep p (path_asked w.query) h) q (below n (last_sweep p (path_asked w.query) h) e), refl), turned_some c))
+    (λ e. ((w, subst (λ z. last_sweep p (path_asked w.query) h ≤ z) q (ltb-false n (last_sweep p (path_asked w.query) h) e), refl), turned_some c))
 
 wait_says : (p : Plan) (c : ℕ) (h : List Entry) (r : Reading) (a : Option Ask) → asked p c ((client_of p c h).begun + 1) ≡ a → (client_of p c h).reading ≡ Some r → target_by p c h ≡ None → HasNoMessage p c h → Says p c h (register_asked (sight_of p c h) ((client_of p c h).begun + 1) (number_read (seen_by c h) r) a)
 wait_says p c h r None e f t m = idle_says p c h
@@ -100,17 +95,17 @@ wait_says p c h r (Some a) e f t m = by_want a.want refl
 -- Beginnings. ------------------------------------------------------------------------------------------
 
 write_says : (p : Plan) (c i : ℕ) (h : List Entry) (b : Begins p c i h) (closed : Bool) → (client_of p c h).closed ≡ closed → ((client_of p c h).closed ≡ false → Says p c h (op.Send c i (sends_of c h + 1))) → Says p c h (local_if closed c i (op.Send c i (sends_of c h + 1)))
-write_says p c i h b true e d = ((b, inr e), its c)
+write_says p c i h b true e d = ((b, inr e), turned_some c)
 write_says p c i h b false e d = d e
 
 read_says : (p : Plan) (c i s : ℕ) (h : List Entry) (b : Begins p c i h) (closed : Bool) → (client_of p c h).closed ≡ closed → ((client_of p c h).closed ≡ false → Says p c h (op.Read c i s)) → Says p c h (local_if closed c i (op.Read c i s))
-read_says p c i s h b true e d = ((b, inr e), its c)
+read_says p c i s h b true e d = ((b, inr e), turned_some c)
 read_says p c i s h b false e d = d e
 
 begin_says : (p : Plan) (c i : ℕ) (h : List Entry) (b : Begins p c i h) (w : Want) → b.ask.want ≡ w → Says p c h (begin_op (sight_of p c h) i (client_of p c h).closed w)
-begin_says p c i h b Unfit e = ((b, inl e), its c)
-begin_says p c i h b (Writes r) e = write_says p c i h b (client_of p c h).closed refl (λ f. ((record { begins = b; request = r; writes = e; session_open = f }, refl), its c))
-begin_says p c i h b (Reads q w) e = read_says p c i (stamp_of (path_asked q) h) h b (client_of p c h).closed refl (λ f. ((record { begins = b; query = q; watch = w; reads = e; session_open = f }, refl), its c))
+begin_says p c i h b Unfit e = ((b, inl e), turned_some c)
+begin_says p c i h b (Writes r) e = write_says p c i h b (client_of p c h).closed refl (λ f. ((record { begins = b; request = r; writes = e; session_open = f }, refl), turned_some c))
+begin_says p c i h b (Reads q w) e = read_says p c i (stamp_of (path_asked q) h) h b (client_of p c h).closed refl (λ f. ((record { begins = b; query = q; watch = w; reads = e; session_open = f }, refl), turned_some c))
 
 next_says : (p : Plan) (c : ℕ) (h : List Entry) (a : Option Ask) → asked p c ((client_of p c h).begun + 1) ≡ a → (client_of p c h).reading ≡ None → target_by p c h ≡ None → HasNoMessage p c h → Says p c h (begin_asked by_result (sight_of p c h) (client_of p c h) a)
 next_says p c h None e f t m = idle_says p c h
@@ -126,13 +121,13 @@ rest_says p c h (Some r) e m t = wait_says p c h r (asked p c ((client_of p c h)
 -- Messages. --------------------------------------------------------------------------------------------
 
 message_says : (p : Plan) (c : ℕ) (h : List Entry) (m : Message) → (client_of p c h).owed ≡ [] → Says p c h (take_op c m)
-message_says p c h (Done k t) e = (e, its c)
-message_says p c h (Evicted k t) e = (e, its c)
-message_says p c h (Kept k (Passed loss)) e = (e, its c)
-message_says p c h (Kept k (Committed t)) e = (e, its c)
-message_says p c h (Kept k (Refused cd place at)) e = (e, its c)
-message_says p c h (Watch watch) e = (e, its c)
-message_says p c h (Ping ping) e = (e, its c)
+message_says p c h (Done k t) e = (e, turned_some c)
+message_says p c h (Evicted k t) e = (e, turned_some c)
+message_says p c h (Kept k (Passed loss)) e = (e, turned_some c)
+message_says p c h (Kept k (Committed t)) e = (e, turned_some c)
+message_says p c h (Kept k (Refused cd place at)) e = (e, turned_some c)
+message_says p c h (Watch watch) e = (e, turned_some c)
+message_says p c h (Ping ping) e = (e, turned_some c)
 
 take_says : (p : Plan) (c : ℕ) (h : List Entry) (ms : List Message) (o : Op) → inbox_of p c h ≡ ms → (client_of p c h).owed ≡ [] → (HasNoMessage p c h → Says p c h o) → Says p c h (take_or c (first_message ms) o)
 take_says p c h [] o e f d = d (record { pings = f; inbox = e })
@@ -140,7 +135,7 @@ take_says p c h (m ∷ ms) o e f d = message_says p c h m f
 
 pong_says : (p : Plan) (c : ℕ) (h : List Entry) (pings : List ℕ) (o : Op) → (client_of p c h).owed ≡ pings → ((client_of p c h).owed ≡ [] → Says p c h o) → Says p c h (pong_or c pings o)
 pong_says p c h [] o e d = d e
-pong_says p c h (n ∷ ns) o e d = ((ns, e), its c)
+pong_says p c h (n ∷ ns) o e d = ((ns, e), turned_some c)
 
 client_says : (p : Plan) (c : ℕ) (h : List Entry) → Says p c h (client_op p c h)
 client_says p c h =
@@ -153,9 +148,6 @@ client_says p c h =
     (λ m. target_says p c h (target_by p c h) o refl m (rest_says p c h x.reading refl m)))
 
 -- Failures. --------------------------------------------------------------------------------------------
-
-pub failed_in : (o : Op) (d : ℕ) → client_in (failed_op o) ≡ Some d → client_in o ≡ Some d
-failed_in o d e = grind arith
 
 failed_says : (p : Plan) (c : ℕ) (h : List Entry) (o : Op) → OperationSays p c h o → OperationSays p c h (failed_op o)
 failed_says p c h (op.Pong d ping) a = tt

@@ -1,7 +1,7 @@
 -- Each client's replies are in the order of its commands.
 use Rattle.std.specs.Prelude.{◌==◌, if◌then◌else◌, ◌&&◌}
 use Rattle.std.proofs.Common.{◌≡◌, ℕ, ◌+◌, ◌≤◌, ◌++◌, Bool, true, false, List, [], ◌∷◌, refl, sym, ◌∙◌, ap, subst, arith, Option, Some, None}
-use Rattle.std.proofs.lemmas.Bool.{false≢true, cond_both}
+use Rattle.std.proofs.lemmas.Bool.{false≢true, cond_both, eqb-true}
 use Rattle.std.proofs.lemmas.Bool.Decides.{nat_tests}
 use Rattle.fk_base.specs.declared.code.Code.TheVariants as code
 use Rattle.fk_tree.specs.declared.applied.Applied.{Applied}
@@ -24,11 +24,11 @@ use Rattle.fk_spec.specs.Replies.{shown_result, verb_asked, reply_line, reply_li
 use Rattle.fk_spec.specs.PublicLines.{Each, lines_of, lines_onto}
 use Rattle.fk_spec.specs.Promises.{is_earlier, all_earlier}
 use Rattle.fk_spec.specs.Next.{IsHistory, next_lines, lines_of_client, tx_lines}
+use Rattle.fk_law.proofs.Printing.{lines_are}
 use Rattle.fk_law_watch.specs.FirstNumbers.{ReadsAreReads}
 use Rattle.fk_law_watch.proofs.Reading.{ReadSo, reads_so, next_is}
 use Rattle.fk_law_client.specs.Ordering.{IsInOrder, RepliesAreInOrder}
 use Rattle.fk_law_client.proofs.Acting.{ActsAs, IsLooked, entry_acts}
-use Rattle.fk_law_client.proofs.Messages.{same_number}
 use Rattle.fk_law_client.proofs.Tracking.{none_read, none_unanswered}
 
 -- Lines in order. --------------------------------------------------------------------------------------
@@ -265,9 +265,6 @@ own_so p c e h v l q z =
 other_so : (c : ℕ) (ls b : List Line) (ss : List Sent) (begun : ℕ) → NoneTo c ls → IsOrdered c ss begun b → IsOrdered c ss begun (lines_onto ls b)
 other_so c ls b ss begun n x = record { answered = x.answered; leads = x.leads; earlier = none_earlier c (x.answered + 1) ls b n x.earlier }
 
-lines_are : (p : Plan) (e : Entry) (h : List Entry) → IsHistory p (e ∷ h) → e.lines ≡ next_lines p h e.op
-lines_are p e h l = ap (λ x. x.lines) l.1.0 ∙ ap (next_lines p h) (sym (ap (λ x. x.op) l.1.0))
-
 abbrev After : Plan → ℕ → Entry → List Entry → Option ℕ → List Line → Type 0
 After p c e h k ls = IsOrdered c (client_by (sight_of p c h) k e.op (client_of p c h)).sent (client_by (sight_of p c h) k e.op (client_of p c h)).begun (lines_onto ls (lines_of h))
 
@@ -286,7 +283,7 @@ ordered_step p c e h v l z = subst (After p c e h (client_in e.op)) (sym (lines_
     by_client : (k : Option ℕ) → client_in e.op ≡ k → After p c e h k (next_lines p h e.op)
     by_client None q = other_so c (next_lines p h e.op) (lines_of h) x.sent x.begun (next_none p h c e.op q) z
     by_client (Some s) q = subst (After p c e h (Some s)) (sym (next_is p h s e.op q))
-        (cond_both (s == c) (flushed by_result (acted_by (sight_of p c h) e.op x)) x (λ y. IsOrdered c y.sent y.begun (lines_onto (client_lines p s h e.op) (lines_of h))) (λ f. own s q (same_number s c f)) (λ f. other s f))
+        (cond_both (s == c) (flushed by_result (acted_by (sight_of p c h) e.op x)) x (λ y. IsOrdered c y.sent y.begun (lines_onto (client_lines p s h e.op) (lines_of h))) (λ f. own s q (eqb-true s c f)) (λ f. other s f))
 
 ordered_at : (p : Plan) (c : ℕ) (h : List Entry) → ReadsAreReads p → IsHistory p h → OrderedAt p c h
 ordered_at p c [] v l = record { answered = 0; leads = refl; earlier = refl }

@@ -21,7 +21,7 @@ use Rattle.fk_spec.specs.Start.{Origin, Pushed, when, task_of, probes_session, p
 use Rattle.fk_spec.specs.Start as start
 use Rattle.fk_spec.specs.Settling.{commits, is_committed, last_of_session, mark_of, mark_in}
 use Rattle.fk_spec.specs.Stored.{committed_of, committed_in, with_filled, filled_after, last_editor, last_edit, owned_after}
-use Rattle.fk_spec.specs.Follower.{Follower, Granted, begin, view_of, greatest_last, decided, next_stage, to_lock, to_begin, with_granted, next_with}
+use Rattle.fk_spec.specs.Follower.{Follower, Granted, view_of, greatest_last, decided, next_stage, to_lock, to_begin, with_granted, next_with}
 use Rattle.fk_spec.specs.Follower as follower
 use Rattle.fk_spec.specs.Leader as leader
 use Rattle.fk_spec.specs.Function.{Following, place_of}
@@ -31,7 +31,7 @@ use Rattle.fk_law.proofs.Due.{due}
 use Rattle.fk_law.proofs.Growing.{numbers_never_fall}
 use Rattle.fk_law.proofs.Knowing.{last_is_committed}
 use Rattle.fk_law.proofs.Leading.{leader_at_or_below_the_head}
-use Rattle.fk_law.proofs.Rising.{committed_low, pushed_before}
+use Rattle.fk_law.proofs.Rising.{committed_low, pushed_before, history_before}
 use Rattle.fk_law.proofs.Standing.{OnStanding, standing_step}
 use Rattle.fk_law.proofs.Starting.{leader_task}
 use Rattle.fk_law_watch.specs.FirstNumbers.{ReadsAreReads}
@@ -166,11 +166,7 @@ refused_up m n place at cd h s r i = absurd r
 pub refusal_pushed : RefusalNumberWasPushed
 refusal_pushed p n place at cd h v l d = refused_up (pushes_of h) n place at cd h d.0.stage d.3 (subst (OnStanding (KnowsUpTo (pushes_of h))) d.1 (knows_pushed p n h v l)).2
 
-tail_history : (p : Plan) (h more : List Entry) → IsHistory p (more ++ h) → IsHistory p h
-tail_history p h [] l = l
-tail_history p h (e ∷ more) l = tail_history p h more l.0
-
 pub refusal_holds : RefusalHoldsInLongerHistories
 refusal_holds p n place at cd e h more f r v l q g a =
-    let k = tail_history p (e ∷ h) more l in
+    let k = history_before p (e ∷ h) more l in
     refusal_holds_for_ever p n place at cd e h more f r l q (refusal_pushed p n place at cd h v k.0 (subst (IsDue p h) q (due p e h k))) g a

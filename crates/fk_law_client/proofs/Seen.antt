@@ -1,8 +1,9 @@
 -- What a client was shown is published.
 use Rattle.std.specs.Prelude.{◌==◌, ◌&&◌, max}
 use Rattle.std.proofs.Common.{◌≡◌, ℕ, ◌+◌, ◌≤◌, ◌++◌, Bool, true, false, List, [], ◌∷◌, refl, sym, ◌∙◌, ap, subst, arith, Option, Some, None}
-use Rattle.std.proofs.lemmas.Bool.{false≢true, cond_both}
+use Rattle.std.proofs.lemmas.Bool.{false≢true, cond_both, eqb-true}
 use Rattle.std.proofs.lemmas.Bool.Decides.{nat_tests}
+use Rattle.std.proofs.lemmas.Option.{same_Some}
 use Rattle.fk_base.specs.declared.code.Code.TheVariants as code
 use Rattle.fk_tree.specs.Apply.{reply_of}
 use Rattle.fk_tree.specs.Ask.{answer_from}
@@ -32,13 +33,14 @@ use Rattle.fk_spec.specs.Replies.{shown_reply, shown_applied, shown_loss, shown_
 use Rattle.fk_spec.specs.Next.{IsHistory, next_lines}
 use Rattle.fk_law.specs.Due.{IsDue}
 use Rattle.fk_law.proofs.Due.{due}
+use Rattle.fk_law.proofs.Leading.{mark_grows}
 use Rattle.fk_law_watch.specs.FirstNumbers.{ReadsAreReads}
-use Rattle.fk_law_watch.proofs.Reading.{ReadSo, reads_so, seen_append, client_unseen, none_unseen, next_is, mark_grows}
+use Rattle.fk_law_watch.proofs.Reading.{ReadSo, reads_so, seen_append, client_unseen, none_unseen, next_is}
 use Rattle.fk_law_watch.proofs.Telling.{announced_has_fired}
 use Rattle.fk_law_client.specs.Shown.{SeenIsPublished}
 use Rattle.fk_law_client.specs.Tracking.{IsTrueResult, later, AreTracked}
 use Rattle.fk_law_client.proofs.Acting.{ActsAs, LooksSo, IsUpTo, HeadUpTo, IsLooked, entry_acts}
-use Rattle.fk_law_client.proofs.Messages.{some_same, same_number, inbox_messages}
+use Rattle.fk_law_client.proofs.Messages.{inbox_messages}
 use Rattle.fk_law_client.proofs.Tracking.{first_true, sent_tracked}
 
 -- Lines that show numbers up to a mark. ----------------------------------------------------------------
@@ -221,11 +223,11 @@ tracked_met p c m h n last (s ∷ ss) begun top a x = (met_up p c s.k m h s.resu
 -- Histories. -------------------------------------------------------------------------------------------
 
 tells_up : (p : Plan) (c : ℕ) (h : List Entry) (o : Op) → IsHistory p h → client_in o ≡ Some c → IsDue p h o → TellsUpTo p h (mark_of h) o
-tells_up p c h (op.TakeEvicted d k t) l f i = let s : d ≡ c = some_same d c f in (first_true p c h (inbox_of p c h) i.0 (Evicted k t) (subst (λ z. inbox_of p z h ≡ Evicted k t ∷ i.0) s i.1) (inbox_messages p c h l)).published
+tells_up p c h (op.TakeEvicted d k t) l f i = let s : d ≡ c = same_Some d c f in (first_true p c h (inbox_of p c h) i.0 (Evicted k t) (subst (λ z. inbox_of p z h ≡ Evicted k t ∷ i.0) s i.1) (inbox_messages p c h l)).published
 tells_up p c h (op.TakeWatch d id) l f i =
-    let s : d ≡ c = some_same d c f in
+    let s : d ≡ c = same_Some d c f in
     let a = announced_has_fired p id h l (first_true p c h (inbox_of p c h) i.0 (Watch id) (subst (λ z. inbox_of p z h ≡ Watch id ∷ i.0) s i.1) (inbox_messages p c h l)) in
-    λ g q. subst (λ z. z.tx ≤ mark_of h) (some_same a.0 g (sym a.1 ∙ q)) a.2
+    λ g q. subst (λ z. z.tx ≤ mark_of h) (same_Some a.0 g (sym a.1 ∙ q)) a.2
 tells_up p c h o l f i = tt
 
 lines_up : (p : Plan) (c : ℕ) (e : Entry) (h : List Entry) → ReadsAreReads p → IsHistory p (e ∷ h) → client_in e.op ≡ Some c → seen_by c h ≤ mark_of h → seen_lines c (client_lines p c h e.op) (seen_by c h) ≤ mark_of h
@@ -248,7 +250,7 @@ seen_step p c e h v l a = omega (arith, grown, up)
     lines = ap (λ x. x.lines) l.1.0 ∙ ap (next_lines p h) (sym (ap (λ x. x.op) l.1.0))
 
     by_own : (s : ℕ) (b : Bool) → (s == c) ≡ b → client_in e.op ≡ Some s → seen_lines c (client_lines p s h e.op) (seen_by c h) ≤ mark_of h
-    by_own s true f q = let g = same_number s c f in subst (λ z. seen_lines c (client_lines p z h e.op) (seen_by c h) ≤ mark_of h) (sym g) (lines_up p c e h v l (q ∙ ap Some g) a)
+    by_own s true f q = let g = eqb-true s c f in subst (λ z. seen_lines c (client_lines p z h e.op) (seen_by c h) ≤ mark_of h) (sym g) (lines_up p c e h v l (q ∙ ap Some g) a)
     by_own s false f q = subst (λ z. z ≤ mark_of h) (sym (client_unseen p h c s e.op (seen_by c h) f)) a
 
     by_client : (o : Option ℕ) → client_in e.op ≡ o → seen_lines c (next_lines p h e.op) (seen_by c h) ≤ mark_of h

@@ -1,8 +1,9 @@
 -- What a client keeps of the commands that it sent or refused itself.
 use Rattle.std.specs.Prelude.{◌==◌, ◌<◌, ◌&&◌}
 use Rattle.std.proofs.Common.{◌≡◌, ℕ, ◌+◌, ◌≤◌, ◌⊎◌, inl, inr, ◌++◌, Bool, true, false, List, [], ◌∷◌, refl, sym, ◌∙◌, ap, subst, arith, Option, Some, None}
-use Rattle.std.proofs.lemmas.Bool.{false≢true, cond_both}
+use Rattle.std.proofs.lemmas.Bool.{false≢true, cond_both, eqb-true}
 use Rattle.std.proofs.lemmas.Bool.Decides.{nat_tests}
+use Rattle.std.proofs.lemmas.Option.{same_Some}
 use Rattle.fk_base.specs.declared.code.Code.TheVariants as code
 use Rattle.fk_print.specs.declared.entry.Entry.{Entry}
 use Rattle.fk_print.specs.declared.line.Line.{Line}
@@ -27,7 +28,7 @@ use Rattle.fk_law_watch.proofs.Reading.{ReadSo, reads_so}
 use Rattle.fk_law_client.specs.Inboxes.{IsPublishedPush, IsTrueMessage, AreTrueMessages}
 use Rattle.fk_law_client.specs.Tracking.{IsSentWith, IsTrueResult, later, IsSentSo, AreTracked, KeepsTrack, SentCommandsAreTracked}
 use Rattle.fk_law_client.proofs.Acting.{ActsAs, BeginsSo, IsLooked, ReadsTree, entry_acts}
-use Rattle.fk_law_client.proofs.Messages.{some_same, same_number, published_push_stays, inbox_messages}
+use Rattle.fk_law_client.proofs.Messages.{published_push_stays, inbox_messages}
 
 -- What was seen grows. ---------------------------------------------------------------------------------
 
@@ -218,17 +219,17 @@ first_true p c h ms rest m e i = (subst (AreTrueMessages p c h) e i).0
 
 kept_first : (p : Plan) (c k : ℕ) (e : Entry) (h : List Entry) (ms rest : List Message) (o : Outcome) → IsHistory p (e ∷ h) → ms ≡ Kept k o ∷ rest → AreTrueMessages p c h ms → (w : Outcome) → kept_outcome (first_message ms) ≡ Some w → IsTrueResult p c k (e ∷ h) (Settled w)
 kept_first p c k e h ms rest o l q i w f =
-    let s : o ≡ w = some_same o w (sym (ap (λ z. kept_outcome (first_message z)) q) ∙ f) in
+    let s : o ≡ w = same_Some o w (sym (ap (λ z. kept_outcome (first_message z)) q) ∙ f) in
     result_stays p c k e h (Settled w) l (subst (λ z. IsTrueResult p c k h (Settled z)) s (kept_true p c k h o (first_true p c h ms rest (Kept k o) q i)))
 
 sent_now : (p : Plan) (c i k : ℕ) (e : Entry) (h : List Entry) → e.op ≡ op.Send c i k → k ≡ sends_of c h + 1 → IsSentWith c i k (e ∷ h)
 sent_now p c i k e h q f = record { seen = seen_by c h; origin = rw (q, f) (grind (arith, nat_tests)) }
 
 tells_so : (p : Plan) (c : ℕ) (e : Entry) (h : List Entry) (o : Op) → IsHistory p (e ∷ h) → e.op ≡ o → client_in o ≡ Some c → IsDue p h o → TellsSo p c (e ∷ h) (sends_of c h) (sight_of p c h).head o
-tells_so p c e h (op.TakeDone d k t) l q f i = let s : d ≡ c = some_same d c f in published_push_stays p c k t false e h l (first_true p c h (inbox_of p c h) i.0 (Done k t) (subst (λ z. inbox_of p z h ≡ Done k t ∷ i.0) s i.1) (inbox_messages p c h l.0))
-tells_so p c e h (op.TakeRefused d k) l q f i = let s : d ≡ c = some_same d c f in kept_first p c k e h (inbox_of p c h) i.1 i.0 l (subst (λ z. inbox_of p z h ≡ Kept k i.0 ∷ i.1) s i.2) (inbox_messages p c h l.0)
-tells_so p c e h (op.TakeLost d k) l q f i = let s : d ≡ c = some_same d c f in kept_first p c k e h (inbox_of p c h) i.1 (Passed i.0) l (subst (λ z. inbox_of p z h ≡ Kept k (Passed i.0) ∷ i.1) s i.2) (inbox_messages p c h l.0)
-tells_so p c e h (op.Send d j k) l q f i = let s : d ≡ c = some_same d c f in let n = subst (λ z. k ≡ sends_of z h + 1) s i.0 in (n, sent_now p c j k e h (q ∙ ap (λ z. op.Send z j k) s) n)
+tells_so p c e h (op.TakeDone d k t) l q f i = let s : d ≡ c = same_Some d c f in published_push_stays p c k t false e h l (first_true p c h (inbox_of p c h) i.0 (Done k t) (subst (λ z. inbox_of p z h ≡ Done k t ∷ i.0) s i.1) (inbox_messages p c h l.0))
+tells_so p c e h (op.TakeRefused d k) l q f i = let s : d ≡ c = same_Some d c f in kept_first p c k e h (inbox_of p c h) i.1 i.0 l (subst (λ z. inbox_of p z h ≡ Kept k i.0 ∷ i.1) s i.2) (inbox_messages p c h l.0)
+tells_so p c e h (op.TakeLost d k) l q f i = let s : d ≡ c = same_Some d c f in kept_first p c k e h (inbox_of p c h) i.1 (Passed i.0) l (subst (λ z. inbox_of p z h ≡ Kept k (Passed i.0) ∷ i.1) s i.2) (inbox_messages p c h l.0)
+tells_so p c e h (op.Send d j k) l q f i = let s : d ≡ c = same_Some d c f in let n = subst (λ z. k ≡ sends_of z h + 1) s i.0 in (n, sent_now p c j k e h (q ∙ ap (λ z. op.Send z j k) s) n)
 tells_so p c e h o l q f i = tt
 
 top_is : (c : ℕ) (h : List Entry) (o : Op) → client_in o ≡ Some c → top_after (sends_of c h) o ≡ count_sent (sent_in c h o) (sends_of c h)
@@ -236,7 +237,7 @@ top_is c h o e = grind (arith, nat_tests)
 
 client_step : (p : Plan) (c : ℕ) (e : Entry) (h : List Entry) (o : Option ℕ) → client_in e.op ≡ o → (client_in e.op ≡ Some c → TracksAt p c (e ∷ h) (sends_of c (e ∷ h)) (flushed by_result (acted_by (sight_of p c h) e.op (client_of p c h)))) → TracksAt p c (e ∷ h) (sends_of c (e ∷ h)) (client_of p c h) → TracksAt p c (e ∷ h) (sends_of c (e ∷ h)) (client_by (sight_of p c h) o e.op (client_of p c h))
 client_step p c e h None q f w = w
-client_step p c e h (Some s) q f w = cond_both (s == c) (flushed by_result (acted_by (sight_of p c h) e.op (client_of p c h))) (client_of p c h) (TracksAt p c (e ∷ h) (sends_of c (e ∷ h))) (λ t. f (q ∙ ap Some (same_number s c t))) (λ _. w)
+client_step p c e h (Some s) q f w = cond_both (s == c) (flushed by_result (acted_by (sight_of p c h) e.op (client_of p c h))) (client_of p c h) (TracksAt p c (e ∷ h) (sends_of c (e ∷ h))) (λ t. f (q ∙ ap Some (eqb-true s c t))) (λ _. w)
 
 -- what client c keeps after its own operation, before it prints what is ready
 pub acted_tracked : (p : Plan) (c : ℕ) (e : Entry) (h : List Entry) → ReadsAreReads p → IsHistory p (e ∷ h) → client_in e.op ≡ Some c → KeepsTrack p c h (client_of p c h).sent (client_of p c h).begun (sends_of c h) → TracksAt p c (e ∷ h) (sends_of c (e ∷ h)) (acted_by (sight_of p c h) e.op (client_of p c h))

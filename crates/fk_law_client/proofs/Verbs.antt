@@ -1,5 +1,6 @@
 -- What asks for a change in a deployment has the verb of a write.
 use Rattle.std.proofs.Common.{◌≡◌, ℕ, zero, suc, true, List, [], ◌∷◌, refl, subst, arith, Option, Some, None}
+use Rattle.std.proofs.lemmas.Option.{same_Some}
 use Rattle.fk_base.specs.Path.{PathNames}
 use Rattle.fk_tree.specs.declared.request.Query.TheVariants as query
 use Rattle.fk_tree.specs.declared.request.Request.{Request}
@@ -10,7 +11,6 @@ use Rattle.fk_script.specs.declared.deployment.Deployment.{Deployment}
 use Rattle.fk_spec.specs.Plan.{Ask, Want, Writes, Reads, asked, asks_of, all_asks, ask_of, want_of, at_path, path_within, item_after, nth, or_empty, plan_of}
 use Rattle.fk_spec.specs.Client.{is_write}
 use Rattle.fk_law_client.specs.Views.{DeploymentsWriteByWrites}
-use Rattle.fk_law_client.proofs.Messages.{some_same}
 
 abbrev NoWrite : Want → Type 0
 NoWrite (Writes r) = ⊥
@@ -56,7 +56,7 @@ all_blocks P f (b ∷ bs) = (all_asked P f b.commands, all_blocks P f bs)
 
 item_of : (P : Ask → Type 0) (xs : List Ask) (n : ℕ) (a : Ask) → All P xs → item_after xs n ≡ Some a → P a
 item_of P [] n a i e = absurd (grind arith)
-item_of P (x ∷ xs) zero a i e = subst P (some_same x a e) i.0
+item_of P (x ∷ xs) zero a i e = subst P (same_Some x a e) i.0
 item_of P (x ∷ xs) (suc n) a i e = item_of P xs n a i.1 e
 
 list_of : (P : Ask → Type 0) (all : List (List Ask)) (n : ℕ) → AllOf P all → All P (or_empty (item_after all n))

@@ -1,8 +1,9 @@
 -- No client's view of the tree falls.
 use Rattle.std.specs.Prelude.{◌==◌, nat_le, ◌&&◌, max}
 use Rattle.std.proofs.Common.{◌≡◌, ℕ, ◌+◌, ◌⊎◌, inl, inr, ◌++◌, Bool, true, false, List, [], ◌∷◌, refl, sym, ◌∙◌, ap, subst, arith, Option, Some, None}
-use Rattle.std.proofs.lemmas.Bool.{cond_both}
+use Rattle.std.proofs.lemmas.Bool.{cond_both, eqb-true}
 use Rattle.std.proofs.lemmas.Bool.Decides.{nat_tests}
+use Rattle.std.proofs.lemmas.Option.{same_Some, none-some}
 use Rattle.fk_base.specs.declared.code.Code.TheVariants as code
 use Rattle.fk_tree.specs.Ask.{answer_from}
 use Rattle.fk_tree.specs.declared.applied.Applied.{Applied}
@@ -35,7 +36,6 @@ use Rattle.fk_law.proofs.Due.{due}
 use Rattle.fk_law_watch.proofs.Reading.{next_is}
 use Rattle.fk_law_client.specs.Views.{WritesAreWrites, EachViewNeverFalls}
 use Rattle.fk_law_client.proofs.Acting.{ActsAs, entry_acts}
-use Rattle.fk_law_client.proofs.Messages.{some_same, none_some, same_number}
 
 -- Lines and the lines before them. ---------------------------------------------------------------------
 
@@ -213,26 +213,26 @@ own_step p h c seen mark x o a s w = writes_step p h c (own_lines (wording p c h
 -- Histories. -------------------------------------------------------------------------------------------
 
 written_is : (a : Option Ask) (r : Request) → written a ≡ Some r → (v : Ask) × (a ≡ Some v) × (v.want ≡ Writes r)
-written_is None r e = absurd (none_some r e)
+written_is None r e = absurd (none-some r e)
 written_is (Some a) r e = (a, refl, wants a.want e)
   where
     wants : (w : Want) → written (Some (record a { want = w })) ≡ Some r → w ≡ Writes r
-    wants Unfit f = absurd (none_some r f)
-    wants (Reads q b) f = absurd (none_some r f)
-    wants (Writes s) f = ap Writes (some_same s r f)
+    wants Unfit f = absurd (none-some r f)
+    wants (Reads q b) f = absurd (none-some r f)
+    wants (Writes s) f = ap Writes (same_Some s r f)
 
 sends_written : (p : Plan) (h : List Entry) (c d i k : ℕ) (o : Op) → WritesAreWrites p → IsDue p h o → client_in o ≡ Some c → o ≡ op.Send d i k → IsWritten p c i
 sends_written p h c d i k o v b e f =
     let u = subst (IsDue p h) f b in
     let g = written_is (asked p d i) u.1 u.2 in
-    subst (λ z. IsWritten p z i) (some_same d c (sym (ap client_in f) ∙ e)) (subst (λ z. is_write (verb_asked z) ≡ true) (sym g.1) (v d i g.0 u.1 g.1 g.2))
+    subst (λ z. IsWritten p z i) (same_Some d c (sym (ap client_in f) ∙ e)) (subst (λ z. is_write (verb_asked z) ≡ true) (sym g.1) (v d i g.0 u.1 g.1 g.2))
 
 entry_step : (p : Plan) (c : ℕ) (e : Entry) (h : List Entry) → WritesAreWrites p → IsHistory p (e ∷ h) → client_in e.op ≡ Some c → AreWritten p c (client_of p c h).sent → StepSo p h c (own_lines (wording p c h) (sight_of p c h) (client_of p c h) e.op) (acted_by (sight_of p c h) e.op (client_of p c h)).sent
 entry_step p c e h v l q w = own_step p h c (seen_by c h) (mark_of h) (client_of p c h) e.op (entry_acts p c e h l q) (λ d i k f. sends_written p h c d i k e.op v (due p e h l) q f) w
 
 client_written : (p : Plan) (c : ℕ) (e : Entry) (h : List Entry) (o : Option ℕ) → client_in e.op ≡ o → (client_in e.op ≡ Some c → AreWritten p c (flushed by_result (acted_by (sight_of p c h) e.op (client_of p c h))).sent) → AreWritten p c (client_of p c h).sent → AreWritten p c (client_by (sight_of p c h) o e.op (client_of p c h)).sent
 client_written p c e h None q f w = w
-client_written p c e h (Some s) q f w = cond_both (s == c) (flushed by_result (acted_by (sight_of p c h) e.op (client_of p c h))) (client_of p c h) (λ y. AreWritten p c y.sent) (λ t. f (q ∙ ap Some (same_number s c t))) (λ _. w)
+client_written p c e h (Some s) q f w = cond_both (s == c) (flushed by_result (acted_by (sight_of p c h) e.op (client_of p c h))) (client_of p c h) (λ y. AreWritten p c y.sent) (λ t. f (q ∙ ap Some (eqb-true s c t))) (λ _. w)
 
 are_written : (p : Plan) (c : ℕ) (h : List Entry) → WritesAreWrites p → IsHistory p h → AreWritten p c (client_of p c h).sent
 are_written p c [] v l = tt

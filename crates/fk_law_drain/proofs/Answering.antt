@@ -1,8 +1,9 @@
 -- Each command that a client began is answered, or the client keeps it.
 use Rattle.std.specs.Prelude.{◌==◌, ◌&&◌, ◌||◌, if◌then◌else◌, nat_le}
 use Rattle.std.proofs.Common.{◌≡◌, ℕ, ◌+◌, ◌≤◌, ◌++◌, Bool, true, false, List, [], ◌∷◌, refl, sym, ◌∙◌, ap, subst, arith, Option, Some, None}
-use Rattle.std.proofs.lemmas.Bool.{false≢true}
+use Rattle.std.proofs.lemmas.Bool.{false≢true, leb-true}
 use Rattle.std.proofs.lemmas.Bool.Decides.{nat_tests}
+use Rattle.std.proofs.Math.Bool.{or_assoc}
 use Rattle.fk_base.specs.declared.code.Code.TheVariants as code
 use Rattle.fk_print.specs.declared.entry.Entry.{Entry}
 use Rattle.fk_print.specs.declared.line.Line.{Line}
@@ -16,18 +17,13 @@ use Rattle.fk_spec.specs.Client.{acted_by, by_result, client_in, client_of, clos
 use Rattle.fk_spec.specs.Replies.{first_line, looked_lines, own_lines, read_lines, reply_lines, wording}
 use Rattle.fk_spec.specs.Schedule.{answers, is_answered, is_answered_in}
 use Rattle.fk_spec.specs.Next.{IsHistory}
-use Rattle.fk_law.proofs.Numbers.{at_most}
 use Rattle.fk_law_watch.proofs.Reading.{next_is}
 use Rattle.fk_law_client.specs.Operations.{OperationSays}
 use Rattle.fk_law_client.proofs.Kept.{client_after}
-use Rattle.fk_law_client.proofs.Lines.{lines_are}
 use Rattle.fk_law_client.proofs.Operating.{client_operations_say}
 use Rattle.fk_law.proofs.Numbers.{itself}
+use Rattle.fk_law.proofs.Printing.{lines_are}
 use Rattle.fk_law_drain.specs.Answering.{keeps_command, BegunAreAnsweredOrKept}
-
-or_regroup : (a b c : Bool) → ((a || b) || c) ≡ (a || (b || c))
-or_regroup true b c = refl
-or_regroup false b c = refl
 
 -- the lines of an operation, `own` and then `ready`; the entries before, `old`; what stays kept
 regrouped : (own ready old kept : Bool) → (((own || ready) || old) || kept) ≡ ((own || old) || (ready || kept))
@@ -45,7 +41,7 @@ more_answered false old kept e = e
 
 answered_appended : (c i : ℕ) (xs ys : List Line) → is_answered_in c i (xs ++ ys) ≡ (is_answered_in c i xs || is_answered_in c i ys)
 answered_appended c i [] ys = refl
-answered_appended c i (x ∷ xs) ys = ap (λ z. answers c i x || z) (answered_appended c i xs ys) ∙ sym (or_regroup (answers c i x) (is_answered_in c i xs) (is_answered_in c i ys))
+answered_appended c i (x ∷ xs) ys = ap (λ z. answers c i x || z) (answered_appended c i xs ys) ∙ sym (or_assoc (answers c i x) (is_answered_in c i xs) (is_answered_in c i ys))
 
 own_answers : (c j i : ℕ) → (if c == c then j == i else false) ≡ (j == i)
 own_answers c j i = ap (λ z. if z then j == i else false) (itself c)
@@ -58,7 +54,7 @@ ready_or_kept p c i h (s ∷ ss) = by_ready (is_ready s.result) (ready_or_kept p
     by_ready : (b : Bool) → (is_answered_in c i (reply_lines (wording p c h) (ready_first by_result ss)) || keeps_command i (without_ready by_result ss)) ≡ keeps_command i ss → (is_answered_in c i (reply_lines (wording p c h) (if b then s ∷ ready_first by_result ss else [])) || keeps_command i (if b then without_ready by_result ss else s ∷ ss)) ≡ keeps_command i (s ∷ ss)
     by_ready true e =
         ap (λ z. (z || is_answered_in c i (reply_lines (wording p c h) (ready_first by_result ss))) || keeps_command i (without_ready by_result ss)) (own_answers c s.command i)
-        ∙ (or_regroup (s.command == i) (is_answered_in c i (reply_lines (wording p c h) (ready_first by_result ss))) (keeps_command i (without_ready by_result ss)) ∙ ap (λ z. (s.command == i) || z) e)
+        ∙ (or_assoc (s.command == i) (is_answered_in c i (reply_lines (wording p c h) (ready_first by_result ss))) (keeps_command i (without_ready by_result ss)) ∙ ap (λ z. (s.command == i) || z) e)
     by_ready false e = refl
 
 -- Kept commands. ---------------------------------------------------------------------------------------
@@ -69,7 +65,7 @@ keeps_appended i s [] = or_none (s.command == i)
     or_none : (a : Bool) → (a || false) ≡ a
     or_none true = refl
     or_none false = refl
-keeps_appended i s (x ∷ xs) = ap (λ z. (x.command == i) || z) (keeps_appended i s xs) ∙ sym (or_regroup (x.command == i) (keeps_command i xs) (s.command == i))
+keeps_appended i s (x ∷ xs) = ap (λ z. (x.command == i) || z) (keeps_appended i s xs) ∙ sym (or_assoc (x.command == i) (keeps_command i xs) (s.command == i))
 
 keeps_told : (i k : ℕ) (r : Result) (ss : List Sent) → keeps_command i (with_told by_result k r ss) ≡ keeps_command i ss
 keeps_told i k r [] = refl
@@ -107,7 +103,7 @@ joins i j old s x e n f b = subst (λ z. (old || z) ≡ true) (sym (keeps_append
     it g = grind (arith, nat_tests)
 
     by_old : (a : Bool) → nat_le i x.begun ≡ a → (old || (keeps_command i x.sent || (s.command == i))) ≡ true
-    by_old true g = left old (keeps_command i x.sent) (s.command == i) (f (at_most i x.begun g))
+    by_old true g = left old (keeps_command i x.sent) (s.command == i) (f (leb-true i x.begun g))
     by_old false g = right old (keeps_command i x.sent) (s.command == i) (it g)
 
 -- the next command is answered at once
@@ -122,7 +118,7 @@ answers_now i j old x n f b = by_old (nat_le i x.begun) refl
     first false g = absurd (false≢true g)
 
     by_old : (a : Bool) → nat_le i x.begun ≡ a → ((((j == i) || false) || old) || keeps_command i x.sent) ≡ true
-    by_old true g = more_answered ((j == i) || false) old (keeps_command i x.sent) (f (at_most i x.begun g))
+    by_old true g = more_answered ((j == i) || false) old (keeps_command i x.sent) (f (leb-true i x.begun g))
     by_old false g = first (j == i) (it g)
 
 answers_line : (c i j : ℕ) (old : Bool) (x : Client Sent) → j ≡ x.begun + 1 → IsAccounted i old x → i ≤ x.begun + 1 → ((((if c == c then j == i else false) || false) || old) || keeps_command i x.sent) ≡ true

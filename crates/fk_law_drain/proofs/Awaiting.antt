@@ -1,8 +1,9 @@
 -- A client waits for what became of its requests until a message of its inbox tells it.
 use Rattle.std.specs.Prelude.{◌==◌, ◌&&◌, ◌||◌, if◌then◌else◌}
 use Rattle.std.proofs.Common.{◌≡◌, ℕ, ◌+◌, ◌≤◌, ◌++◌, inl, inr, Bool, true, false, List, [], ◌∷◌, refl, sym, ◌∙◌, ap, subst, arith, Option, Some, None}
-use Rattle.std.proofs.lemmas.Bool.{false≢true, cond_both}
+use Rattle.std.proofs.lemmas.Bool.{false≢true, cond_both, or_right, eqb-true}
 use Rattle.std.proofs.lemmas.Bool.Decides.{nat_tests}
+use Rattle.std.proofs.lemmas.Option.{same_Some, none-some}
 use Rattle.fk_base.specs.declared.code.Code.TheVariants as code
 use Rattle.fk_tree.specs.declared.request.Request.TheVariants as request
 use Rattle.fk_print.specs.declared.entry.Entry.{Entry}
@@ -10,7 +11,7 @@ use Rattle.fk_print.specs.declared.op.Op.{Op}
 use Rattle.fk_print.specs.declared.op.Op.TheVariants as op
 use Rattle.fk_spec.specs.Plan.{Plan, Ask, Want, Unfit, Writes, Reads, asked}
 use Rattle.fk_spec.specs.Shown.{seen_by}
-use Rattle.fk_spec.specs.Start.{Task, Follows, Leads, count_sent, origin_of, request_from, request_in, request_of, sends_of, sent_in, task_of, written}
+use Rattle.fk_spec.specs.Start.{Follows, Leads, count_sent, request_from, request_in, request_of, sends_of, sent_in, task_of, written}
 use Rattle.fk_spec.specs.Start as start
 use Rattle.fk_spec.specs.Settling.{Outcome, Committed, Passed, outcome_of, settled_of}
 use Rattle.fk_spec.specs.Lanes.{Message, Done, Evicted, Kept, Watch, Ping, inbox_after, inbox_of, is_evict, kept_message, posted_in, reply_message, takes, with_posted, without_first}
@@ -27,13 +28,11 @@ use Rattle.fk_law.proofs.Due.{due}
 use Rattle.fk_law.proofs.Outcomes.{settled_have_an_outcome}
 use Rattle.fk_law.proofs.Settled.{answered_at, reached}
 use Rattle.fk_law.proofs.Starting.{follower_task, leader_task}
-use Rattle.fk_law_watch.proofs.SetWatches.{or_right}
 use Rattle.fk_law_client.specs.Kept.{KeptFrom, Before, Told, Begun, begun_by}
 use Rattle.fk_law_client.specs.Lines.{IsAmong, kept_after}
 use Rattle.fk_law_client.specs.Operations.{OperationSays}
 use Rattle.fk_law_client.specs.Tracking.{AreTracked, IsSentSo, IsSentWith, later}
 use Rattle.fk_law_client.proofs.Kept.{among_unready, kept_commands_have_their_source}
-use Rattle.fk_law_client.proofs.Messages.{none_some, same_number, some_same}
 use Rattle.fk_law_client.proofs.Operating.{client_operations_say}
 use Rattle.fk_law_client.proofs.Tracking.{sent_tracked}
 use Rattle.fk_law.proofs.Numbers.{itself}
@@ -84,31 +83,31 @@ given_stays c k e h g = let a = counts (sent_in c h e.op) (sends_of c h) in let 
     counts o n = grind arith
 
 begun_open : (p : Plan) (c : ℕ) (h : List Entry) (o : Op) (s : Sent) → client_in o ≡ Some c → OperationSays p c h o → begun_by p c (seen_by c h) o ≡ Some s → is_open s.result ≡ true → (s.k ≡ sends_of c h + 1) × (count_sent (sent_in c h o) (sends_of c h) ≡ sends_of c h + 1)
-begun_open p c h (op.Send d i k) s q a f g = (ap (λ z. z.k) (sym (some_same (record { command = i; k = k; result = Open }) s f)) ∙ a.1, counted (some_same d c q))
+begun_open p c h (op.Send d i k) s q a f g = (ap (λ z. z.k) (sym (same_Some (record { command = i; k = k; result = Open }) s f)) ∙ a.1, counted (same_Some d c q))
   where
     counted : d ≡ c → count_sent (sent_in c h (op.Send d i k)) (sends_of c h) ≡ sends_of c h + 1
     counted e = grind (arith, nat_tests)
-begun_open p c h (op.SendFault d i) s q a f g = absurd (false≢true (ap (λ z. is_open z.result) (some_same (record { command = i; k = 0; result = Plain code.ConnectionLoss }) s f) ∙ g))
-begun_open p c h (op.Local d i) s q a f g = absurd (known (is_unfit (asked p c i)) (ap (λ z. is_open z.result) (some_same (record { command = i; k = 0; result = local_result (is_unfit (asked p c i)) (seen_by c h) }) s f) ∙ g))
+begun_open p c h (op.SendFault d i) s q a f g = absurd (false≢true (ap (λ z. is_open z.result) (same_Some (record { command = i; k = 0; result = Plain code.ConnectionLoss }) s f) ∙ g))
+begun_open p c h (op.Local d i) s q a f g = absurd (known (is_unfit (asked p c i)) (ap (λ z. is_open z.result) (same_Some (record { command = i; k = 0; result = local_result (is_unfit (asked p c i)) (seen_by c h) }) s f) ∙ g))
   where
     known : (b : Bool) → is_open (local_result b (seen_by c h)) ≡ true → ⊥
     known true e = false≢true e
     known false e = false≢true e
-begun_open p c h o s q a f g = absurd (none_some s f)
+begun_open p c h o s q a f g = absurd (none-some s f)
 
 -- A client after an entry is as it was, where the entry isn't its own, or as its own operation leaves it.
 pub client_either : (p : Plan) (c : ℕ) (e : Entry) (h : List Entry) (P : Client Sent → Type 0) → ((client_in e.op ≡ Some c → ⊥) → P (client_of p c h)) → (client_in e.op ≡ Some c → P (flushed by_result (acted_by (sight_of p c h) e.op (client_of p c h)))) → P (client_of p c (e ∷ h))
 client_either p c e h P other own = by_client (client_in e.op) refl
   where
     none_is : client_in e.op ≡ None → client_in e.op ≡ Some c → ⊥
-    none_is q f = none_some c (sym q ∙ f)
+    none_is q f = none-some c (sym q ∙ f)
 
     others : (s : ℕ) → client_in e.op ≡ Some s → (s == c) ≡ false → client_in e.op ≡ Some c → ⊥
-    others s q g f = let w : s ≡ c = some_same s c (sym q ∙ f) in grind (arith, nat_tests)
+    others s q g f = let w : s ≡ c = same_Some s c (sym q ∙ f) in grind (arith, nat_tests)
 
     by_client : (o : Option ℕ) → client_in e.op ≡ o → P (client_by (sight_of p c h) o e.op (client_of p c h))
     by_client None q = other (none_is q)
-    by_client (Some s) q = cond_both (s == c) (flushed by_result (acted_by (sight_of p c h) e.op (client_of p c h))) (client_of p c h) P (λ t. own (q ∙ ap Some (same_number s c t))) (λ t. other (others s q t))
+    by_client (Some s) q = cond_both (s == c) (flushed by_result (acted_by (sight_of p c h) e.op (client_of p c h))) (client_of p c h) P (λ t. own (q ∙ ap Some (eqb-true s c t))) (λ t. other (others s q t))
 
 abbrev OpenAreGiven : ℕ → List Entry → List Sent → Type 0
 OpenAreGiven c h ss = (s : Sent) → IsAmong s ss → is_open s.result ≡ true → IsGiven c s.k h
@@ -272,7 +271,7 @@ another_told p c j k h w v l a e = by_test (j == k) refl
   where
     by_test : (b : Bool) → (j == k) ≡ b → b ≡ false
     by_test false f = refl
-    by_test true f = let g = same_number j k f in absurd (false≢true (sym (told_by p c k h w v l a) ∙ subst (λ z. awaits_outcome k (with_told by_result z (Settled w) (client_of p c h).sent) ≡ true) g e))
+    by_test true f = let g = eqb-true j k f in absurd (false≢true (sym (told_by p c k h w v l a) ∙ subst (λ z. awaits_outcome k (with_told by_result z (Settled w) (client_of p c h).sent) ≡ true) g e))
 
 -- what a client awaits after an operation, before it prints what is ready, is told where it was told before
 abbrev StaysTold : Plan → ℕ → ℕ → Entry → List Entry → Type 0
@@ -290,22 +289,22 @@ takes_now c d e o q f t = ap (takes c) q ∙ (t ∙ equal f)
 
 taken_told : (p : Plan) (c k : ℕ) (e : Entry) (h : List Entry) (o : Op) → HasFittingVerbs p → IsHistory p (e ∷ h) → e.op ≡ o → client_in o ≡ Some c → IsDue p h o → 1 ≤ k → awaits_outcome k (kept_after p c h o) ≡ true → is_outcome_told k (inbox_of p c h) ≡ true → is_outcome_told k (inbox_of p c (e ∷ h)) ≡ true
 taken_told p c k e h (op.TakeDone d j t) v l q f i a x y =
-    let s = some_same d c f in
+    let s = same_Some d c f in
     told_taken p c k e h (Done j t) i.0 (takes_now c d e (op.TakeDone d j t) q s refl) (subst (λ z. inbox_of p z h ≡ Done j t ∷ i.0) s i.1) (another_told p c j k h (Committed t) v l.0 a x) y
 taken_told p c k e h (op.TakeRefused d j) v l q f i a x y =
-    let s = some_same d c f in
+    let s = same_Some d c f in
     kept_told p c k d j e h i.0 i.1 v l.0 a (takes_now c d e (op.TakeRefused d j) q s refl) (subst (λ z. inbox_of p z h ≡ Kept j i.0 ∷ i.1) s i.2) x y
 taken_told p c k e h (op.TakeLost d j) v l q f i a x y =
-    let s = some_same d c f in
+    let s = same_Some d c f in
     kept_told p c k d j e h (Passed i.0) i.1 v l.0 a (takes_now c d e (op.TakeLost d j) q s refl) (subst (λ z. inbox_of p z h ≡ Kept j (Passed i.0) ∷ i.1) s i.2) x y
 taken_told p c k e h (op.TakeEvicted d j t) v l q f i a x y =
-    let s = some_same d c f in
+    let s = same_Some d c f in
     told_taken p c k e h (Evicted j t) i.0 (takes_now c d e (op.TakeEvicted d j t) q s refl) (subst (λ z. inbox_of p z h ≡ Evicted j t ∷ i.0) s i.1) refl y
 taken_told p c k e h (op.TakeWatch d w) v l q f i a x y =
-    let s = some_same d c f in
+    let s = same_Some d c f in
     told_taken p c k e h (Watch w) i.0 (takes_now c d e (op.TakeWatch d w) q s refl) (subst (λ z. inbox_of p z h ≡ Watch w ∷ i.0) s i.1) refl y
 taken_told p c k e h (op.TakePing d w) v l q f i a x y =
-    let s = some_same d c f in
+    let s = same_Some d c f in
     told_taken p c k e h (Ping w) i.0 (takes_now c d e (op.TakePing d w) q s refl) (subst (λ z. inbox_of p z h ≡ Ping w ∷ i.0) s i.1) refl y
 taken_told p c k e h o v l q f i a x y = told_untaken p c k e h (ap (takes c) q) y
 

@@ -2,6 +2,7 @@
 use Rattle.std.specs.Prelude.{◌==◌, if◌then◌else◌}
 use Rattle.std.proofs.Common.{◌≡◌, ℕ, zero, suc, ◌≤◌, ◌++◌, Bool, true, false, List, [], ◌∷◌, refl, sym, ◌∙◌, subst, arith, Option, Some, None}
 use Rattle.std.proofs.lemmas.Bool.Decides.{nat_tests}
+use Rattle.std.proofs.lemmas.Option.{same_Some, none-some}
 use Rattle.fk_print.specs.declared.entry.Entry.{Entry}
 use Rattle.fk_print.specs.declared.event.Event.{Event}
 use Rattle.fk_print.specs.declared.event.Event.TheVariants as event
@@ -13,7 +14,6 @@ use Rattle.fk_spec.specs.Function.{in_flight, in_flight_to, is_absent, place_of}
 use Rattle.fk_spec.specs.Schedule.{client_first, deliver_first, deliver_where, is_idle, lead_where, next_of_drain, step_of_first, tell_where}
 use Rattle.fk_spec.specs.Next.{IsHistory}
 use Rattle.fk_law.proofs.Starting.{place_bound}
-use Rattle.fk_law_client.proofs.Messages.{none_some, some_same}
 use Rattle.fk_law_drain.proofs.Drained.{no_note, no_push, no_step}
 
 -- a step of a function in flight, which is the first one
@@ -84,35 +84,35 @@ none_to_stand p (suc m) h f = subst (λ b. (if b then in_flight_to p m h else in
 
 either_event : (p : Plan) (h : List Entry) (v : Event) (o q : Option Event) → ((w : Event) → o ≡ Some w → Chooses p h w) → (o ≡ None → (w : Event) → q ≡ Some w → Chooses p h w) → or_else o q ≡ Some v → Chooses p h v
 either_event p h v None q f g e = g refl v e
-either_event p h v (Some w) q f g e = subst (Chooses p h) (some_same w v e) (f w refl)
+either_event p h v (Some w) q f g e = subst (Chooses p h) (same_Some w v e) (f w refl)
 
 steps_first : (p : Plan) (h : List Entry) (ns : List ℕ) (v : Event) → AllStand p h ns → step_of_first ns ≡ Some v → Chooses p h v
-steps_first p h [] v i e = absurd (none_some v e)
-steps_first p h (n ∷ ns) v i e = subst (Chooses p h) (some_same (event.Step n) v e) (Steps n i.0)
+steps_first p h [] v i e = absurd (none-some v e)
+steps_first p h (n ∷ ns) v i e = subst (Chooses p h) (same_Some (event.Step n) v e) (Steps n i.0)
 
 tells_first : (p : Plan) (h : List Entry) (o : Option ℕ) (v : Event) → in_flight p h ≡ [] → watch_head h ≡ o → tell_where o ≡ Some v → Chooses p h v
-tells_first p h None v i q e = absurd (none_some v e)
-tells_first p h (Some w) v i q e = subst (Chooses p h) (some_same event.Watch v e) (Tells w i q)
+tells_first p h None v i q e = absurd (none-some v e)
+tells_first p h (Some w) v i q e = subst (Chooses p h) (same_Some event.Watch v e) (Tells w i q)
 
 leads_first : (p : Plan) (h : List Entry) (o : Option ℕ) (v : Event) → in_flight p h ≡ [] → leader_head h ≡ o → lead_where o ≡ Some v → Chooses p h v
-leads_first p h None v i q e = absurd (none_some v e)
-leads_first p h (Some t) v i q e = subst (Chooses p h) (some_same event.Leader v e) (Leads t i q)
+leads_first p h None v i q e = absurd (none-some v e)
+leads_first p h (Some t) v i q e = subst (Chooses p h) (same_Some event.Leader v e) (Leads t i q)
 
 delivers_one : (p : Plan) (h : List Entry) (c : ℕ) (o : Option ℕ) (v : Event) → in_flight p h ≡ [] → session_head c h ≡ o → deliver_where c o ≡ Some v → Chooses p h v
-delivers_one p h c None v i q e = absurd (none_some v e)
-delivers_one p h c (Some k) v i q e = subst (Chooses p h) (some_same (event.Deliver c) v e) (Delivers c k i q)
+delivers_one p h c None v i q e = absurd (none-some v e)
+delivers_one p h c (Some k) v i q e = subst (Chooses p h) (same_Some (event.Deliver c) v e) (Delivers c k i q)
 
 delivers_first : (p : Plan) (h : List Entry) (xs : List (List Ask)) (c : ℕ) (v : Event) → in_flight p h ≡ [] → deliver_first xs c h ≡ Some v → Chooses p h v
-delivers_first p h [] c v i e = absurd (none_some v e)
+delivers_first p h [] c v i e = absurd (none-some v e)
 delivers_first p h (x ∷ xs) c v i e = either_event p h v (deliver_where c (session_head c h)) (deliver_first xs (suc c) h) (λ w f. delivers_one p h c (session_head c h) w i refl f) (λ _ w f. delivers_first p h xs (suc c) w i f) e
 
 turns_first : (p : Plan) (h : List Entry) (xs : List (List Ask)) (c : ℕ) (v : Event) → in_flight p h ≡ [] → watch_head h ≡ None → leader_head h ≡ None → client_first p xs c h ≡ Some v → Chooses p h v
-turns_first p h [] c v i a b e = absurd (none_some v e)
+turns_first p h [] c v i a b e = absurd (none-some v e)
 turns_first p h (x ∷ xs) c v i a b e = by_idle (λ f. turns_first p h xs (suc c) v i a b f) (is_idle (client_op p c h)) refl e
   where
     by_idle : (client_first p xs (suc c) h ≡ Some v → Chooses p h v) → (d : Bool) → is_idle (client_op p c h) ≡ d → (if d then client_first p xs (suc c) h else Some (event.Client c)) ≡ Some v → Chooses p h v
     by_idle f true g w = f w
-    by_idle f false g w = subst (Chooses p h) (some_same (event.Client c) v w) (Turns c i a b g)
+    by_idle f false g w = subst (Chooses p h) (same_Some (event.Client c) v w) (Turns c i a b g)
 
 pub drain_chooses : (p : Plan) (h : List Entry) (v : Event) → next_of_drain p h ≡ Some v → Chooses p h v
 drain_chooses p h v e =

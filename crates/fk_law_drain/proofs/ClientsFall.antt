@@ -3,6 +3,7 @@ use Rattle.std.specs.Prelude.{◌==◌, ◌*◌, ◌&&◌, if◌then◌else◌, 
 use Rattle.std.proofs.Common.{◌≡◌, ℕ, zero, suc, ◌+◌, ◌<◌, ◌≤◌, ◌++◌, Bool, true, false, List, [], ◌∷◌, length, refl, sym, ◌∙◌, ap, subst, arith, Option, Some, None}
 use Rattle.std.proofs.lemmas.Bool.{false≢true, cond_both}
 use Rattle.std.proofs.lemmas.Bool.Decides.{nat_tests}
+use Rattle.std.proofs.lemmas.Option.{none-some}
 use Rattle.fk_base.specs.Path.{PathNames}
 use Rattle.fk_tree.specs.Ask.{path_asked}
 use Rattle.fk_tree.specs.Sorted.{has_path}
@@ -29,7 +30,6 @@ use Rattle.fk_law_tree.proofs.Touching.{touch_paths}
 use Rattle.fk_law_watch.proofs.Reading.{ReadSo, reads_so}
 use Rattle.fk_law_watch.proofs.Sweeps.{last_sweep_of_a_path, swept_committed}
 use Rattle.fk_law_client.specs.Operations.{BeginsRead, LooksFor, OperationSays, WaitsToRegister}
-use Rattle.fk_law_client.proofs.Messages.{none_some}
 use Rattle.fk_law_client.proofs.Tracking.{seen_grows}
 use Rattle.fk_law_reply.specs.Plans.{HasFittingVerbs}
 use Rattle.fk_law_reply.specs.Reads.{IsMadeRead}
@@ -68,7 +68,7 @@ outcome_looked : (s : Sent) (ss : List Sent) (n : ℕ) → number_looked_for s.r
 outcome_looked s ss n e = ap (λ b. if b then outcomes_of ss else suc (outcomes_of ss)) (closed s.result e)
   where
     closed : (r : Result) → number_looked_for r ≡ Some n → is_open r ≡ false
-    closed Open e = absurd (none_some n e)
+    closed Open e = absurd (none-some n e)
     closed (Settled o) e = refl
     closed (Plain cd) e = refl
     closed (Expired at) e = refl
@@ -96,7 +96,7 @@ same_sweep : (p : Plan) (path : PathNames) (e : Entry) (h : List Entry) (c : ℕ
 same_sweep p path e h c q = by_op e.op q
   where
     by_op : (o : Op) → client_in o ≡ Some c → sweep_of_path p path h o (last_sweep p path h) ≡ last_sweep p path h
-    by_op (op.SweepOk n t fired) q = absurd (none_some c q)
+    by_op (op.SweepOk n t fired) q = absurd (none-some c q)
     by_op o q = refl
 
 -- a read that is kept takes no more operations
@@ -146,7 +146,7 @@ asked_below xs n a e = below xs n (subst (λ z. nth xs z ≡ Some a) one_more e)
     one_more = omega arith
 
     below : (ys : List Ask) (m : ℕ) → item_after ys m ≡ Some a → m < length ys
-    below [] m e = absurd (none_some a e)
+    below [] m e = absurd (none-some a e)
     below (y ∷ ys) zero e = omega arith
     below (y ∷ ys) (suc m) e = let b = below ys m e in omega (arith, b)
 
@@ -159,9 +159,9 @@ has_less p c e h o k q f b l = HasLess (subst NoSend (sym q) k) (begun_is p c e 
 -- Inboxes. ---------------------------------------------------------------------------------------------
 
 none_posted : (p : Plan) (d c : ℕ) (h : List Entry) (o : Op) → client_in o ≡ Some c → posted_in p d h o ≡ None
-none_posted p d c h (op.Reply n s k) q = absurd (none_some c q)
-none_posted p d c h (op.Tell n s w) q = absurd (none_some c q)
-none_posted p d c h (op.Ping n s) q = absurd (none_some c q)
+none_posted p d c h (op.Reply n s k) q = absurd (none-some c q)
+none_posted p d c h (op.Tell n s w) q = absurd (none-some c q)
+none_posted p d c h (op.Ping n s) q = absurd (none-some c q)
 none_posted p d c h o q = refl
 
 inbox_kept : (p : Plan) (d c : ℕ) (e : Entry) (h : List Entry) → client_in e.op ≡ Some c → takes d e.op ≡ false → inbox_of p d (e ∷ h) ≡ inbox_of p d h
@@ -200,11 +200,11 @@ looked_begun p c h (s ∷ ss) x = closing (is_close (asked p c s.command))
     closing false = (refl, refl, refl)
 
 looked_outcomes : (p : Plan) (c : ℕ) (h : List Entry) (ss : List Sent) (x : Client Sent) (t : Target) → x.sent ≡ ss → target_sent by_result ss ≡ Some t → outcomes_of (looked_for by_result (asks_in p c) ss x).sent + 1 ≡ outcomes_of x.sent
-looked_outcomes p c h [] x t e q = absurd (none_some t q)
+looked_outcomes p c h [] x t e q = absurd (none-some t q)
 looked_outcomes p c h (s ∷ ss) x t e q = closing (is_close (asked p c s.command))
   where
     sought : (o : Option ℕ) → number_looked_for s.result ≡ o → target_with s.command o ≡ Some t → outcomes_of (s ∷ ss) ≡ suc (outcomes_of ss)
-    sought None f g = absurd (none_some t g)
+    sought None f g = absurd (none-some t g)
     sought (Some n) f g = outcome_looked s ss n f
 
     less : outcomes_of ss + 1 ≡ outcomes_of x.sent
@@ -215,7 +215,7 @@ looked_outcomes p c h (s ∷ ss) x t e q = closing (is_close (asked p c s.comman
     closing false = less
 
 nothing_sought : (ss : List Sent) (t : Target) → ss ≡ [] → target_sent by_result ss ≡ Some t → ⊥
-nothing_sought ss t e q = none_some t (subst (λ z. target_sent by_result z ≡ Some t) e q)
+nothing_sought ss t e q = none-some t (subst (λ z. target_sent by_result z ≡ Some t) e q)
 
 -- a look that is ok prints the line of a command that was sent, or it comes to the read
 look_falls : (p : Plan) (c d i m : ℕ) (e : Entry) (h : List Entry) → HasFittingVerbs p → IsHistory p (e ∷ h) → e.op ≡ op.LookOk d i m → d ≡ c → LooksFor p c i h → (r : Option Reading) → (client_of p c h).reading ≡ r → TurnFalls p c e h
@@ -387,13 +387,13 @@ turn_falls p c e h (op.TakeWatch d w) v l b n q f t i a = takes_less p c d e h (
 turn_falls p c e h (op.TakePing d ping) v l b n q f t i a = takes_less p c d e h (Ping ping) i.0 (op.TakePing d ping) tt q f t refl i.1 refl refl (pinged_owed ping (client_of p c h).closed (client_of p c h).owed) (omega arith)
 turn_falls p c e h (op.LookOk d j m) v l b n q f t i a = look_falls p c d j m e h v l q t a.0 (client_of p c h).reading refl
 turn_falls p c e h (op.LookBehind d j m) v l b n q f t i a = absurd (let y = looked_for_is_published p c h (record { command = j; number = a.0.number }) v l.0 b a.0.target in let z = a.2 in omega (arith, y, z))
-turn_falls p c e h (op.LookHeld d j m w) v l b n q f t i a = absurd (none_some w (sym (no_look_is_held p c h l.0 b n a.0.first.inbox) ∙ a.3))
+turn_falls p c e h (op.LookHeld d j m w) v l b n q f t i a = absurd (none-some w (sym (no_look_is_held p c h l.0 b n a.0.first.inbox) ∙ a.3))
 turn_falls p c e h (op.Send d j k) v l b n q f t i a = begins p c j e h a.0.begins.ask (op.Send d j k) q f a.0.begins.next a.0.begins.is_asked a.0.begins.next
 turn_falls p c e h (op.Read d j s) v l b n q f t i a = read_falls p c d j s e h l b q t a.0 a.1
 turn_falls p c e h (op.WatchSet d j w) v l b n q f t i a = begins p c j e h a.0.ask (op.WatchSet d j w) q f a.0.next a.0.is_asked refl
 turn_falls p c e h (op.WatchSwept d j u) v l b n q f t i a = swept_falls p c d j u e h l q t a.0 a.1 a.2
 turn_falls p c e h (op.Local d j) v l b n q f t i a = begins p c j e h a.0.ask (op.Local d j) q f a.0.next a.0.is_asked a.0.next
-turn_falls p c e h op.Idle v l b n q f t i a = absurd (none_some c f)
+turn_falls p c e h op.Idle v l b n q f t i a = absurd (none-some c f)
 turn_falls p c e h o v l b n q f t i a = absurd t
 
 -- Other clients. ---------------------------------------------------------------------------------------

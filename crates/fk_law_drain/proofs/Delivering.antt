@@ -1,7 +1,7 @@
 -- What became of a request is told, once its message is removed and its push is done.
 use Rattle.std.specs.Prelude.{◌==◌, ◌||◌, ◌<◌, nat_le}
 use Rattle.std.proofs.Common.{◌≡◌, ℕ, ◌+◌, ◌≤◌, ◌⊎◌, inl, inr, Bool, true, false, List, [], ◌∷◌, refl, sym, ◌∙◌, ap, subst, arith, Option, Some}
-use Rattle.std.proofs.lemmas.Bool.{false≢true}
+use Rattle.std.proofs.lemmas.Bool.{false≢true, leb-true, leb-false}
 use Rattle.std.proofs.lemmas.Bool.Decides.{nat_tests}
 use Rattle.fk_base.specs.Path.{PathNames}
 use Rattle.fk_print.specs.declared.entry.Entry.{Entry}
@@ -23,7 +23,7 @@ use Rattle.fk_law.specs.Due as due_so
 use Rattle.fk_law.specs.Functions.{IsFor}
 use Rattle.fk_law.specs.LeaderLane.{Stands}
 use Rattle.fk_law.specs.Losing.{IsDead}
-use Rattle.fk_law.specs.Progress.{Progress, Asks, progress, progress_after}
+use Rattle.fk_law.specs.Progress.{Progress, progress, progress_after}
 use Rattle.fk_law.specs.Progress as progress_so
 use Rattle.fk_law.specs.Settled.{IsCommittedPush}
 use Rattle.fk_law.proofs.Committing.{committed_push, its_push_is_one, its_push_stays}
@@ -31,7 +31,6 @@ use Rattle.fk_law.proofs.Deciding.{same_follower}
 use Rattle.fk_law.proofs.Due.{due}
 use Rattle.fk_law.proofs.Leading.{commits_are_beyond_the_sweep, done_is_removed_or_one_more, leader_at_or_below_the_head, leader_stands_where_it_may}
 use Rattle.fk_law.proofs.Moving.{OnFollower, OnLeader, follower_step, leader_step}
-use Rattle.fk_law.proofs.Numbers.{at_most, above}
 use Rattle.fk_law.proofs.Outcomes.{applied_is_committed, outcome_never_changes}
 use Rattle.fk_law.proofs.Settled.{commit_of, reached, settled_between, settled_were_sent, task_at_most_next}
 use Rattle.fk_law.proofs.Starting.{follower_task, leader_task, place_for}
@@ -102,8 +101,8 @@ done_step p t e h v l i a b = push_stays_replied p t e h v l before (by_done (na
     before = committed_before p t h e.op l.0 (due p e h l) b a
 
     by_done : (x : Bool) → nat_le t (done_of h) ≡ x → IsPushReplied p t h
-    by_done true f = i.done t before (at_most t (done_of h) f)
-    by_done false f = let w = newly_done p t h e.op l.0 (due p e h l) before (above t (done_of h) f) b in subst (OnLeader (FinishesSo p h)) w.1 (i.finishes w.0) refl
+    by_done true f = i.done t before (leb-true t (done_of h) f)
+    by_done false f = let w = newly_done p t h e.op l.0 (due p e h l) before (leb-false t (done_of h) f) b in subst (OnLeader (FinishesSo p h)) w.1 (i.finishes w.0) refl
 
 -- Leaders. ---------------------------------------------------------------------------------------------
 
@@ -160,8 +159,8 @@ under_way_after : (p : Plan) (c k : ℕ) (e : Entry) (h : List Entry) → IsHist
 under_way_after p c k e h l done t o = by_done (nat_le t (done_of (e ∷ h))) refl
   where
     by_done : (x : Bool) → nat_le t (done_of (e ∷ h)) ≡ x → IsSeenTo p c k (e ∷ h)
-    by_done true f = let w = applied_is_committed p c k t (e ∷ h) l o in inl (done t w.0 (at_most t (done_of (e ∷ h)) f) w.1 c k w.2)
-    by_done false f = inr (record { tx = t; outcome = o; undone = above t (done_of (e ∷ h)) f })
+    by_done true f = let w = applied_is_committed p c k t (e ∷ h) l o in inl (done t w.0 (leb-true t (done_of (e ∷ h)) f) w.1 c k w.2)
+    by_done false f = inr (record { tx = t; outcome = o; undone = leb-false t (done_of (e ∷ h)) f })
 
 seen_to_stays : (p : Plan) (c k : ℕ) (e : Entry) (h : List Entry) → HasFittingVerbs p → IsHistory p (e ∷ h) → ((t : ℕ) → is_committed t (e ∷ h) ≡ true → t ≤ done_of (e ∷ h) → IsPushReplied p t (e ∷ h)) → IsGiven c k h → IsSeenTo p c k h → IsSeenTo p c k (e ∷ h)
 seen_to_stays p c k e h v l done g (inl x) = inl (replied_stays p c k e h v l g x)
@@ -173,8 +172,8 @@ applied_seen_to : (p : Plan) (c k : ℕ) (h : List Entry) → IsHistory p h → 
 applied_seen_to p c k h l i (Some (Committed t)) e a = by_done (nat_le t (done_of h)) refl
   where
     by_done : (x : Bool) → nat_le t (done_of h) ≡ x → IsSeenTo p c k h
-    by_done true f = let w = applied_is_committed p c k t h l e in inl (i.done t w.0 (at_most t (done_of h) f) w.1 c k w.2)
-    by_done false f = inr (record { tx = t; outcome = e; undone = above t (done_of h) f })
+    by_done true f = let w = applied_is_committed p c k t h l e in inl (i.done t w.0 (leb-true t (done_of h) f) w.1 c k w.2)
+    by_done false f = inr (record { tx = t; outcome = e; undone = leb-false t (done_of h) f })
 applied_seen_to p c k h l i o e a = absurd a
 
 past_removed : (p : Plan) (n c k : ℕ) (h : List Entry) → IsHistory p h → task_of n h ≡ Some (Follows c k) → (settled_of c h + 1 ≡ k → ⊥) → (settled_of c h ≡ k → ⊥) → k ≤ removed_by (follows_session c) h
@@ -284,8 +283,8 @@ removed_step p c k e h v l i done a b = by_old (nat_le k (removed_by (follows_se
         subst (λ z. IsSeenTo p z k (e ∷ h)) x.its_session (subst (λ z. IsSeenTo p x.worker.session z (e ∷ h)) x.its_number y)
 
     by_old : (z : Bool) → nat_le k (removed_by (follows_session c) h) ≡ z → IsSeenTo p c k (e ∷ h)
-    by_old true f = let g = at_most k (removed_by (follows_session c) h) f in seen_to_stays p c k e h v l done (a, sent g) (i.removed c k a g)
-    by_old false f = new (newly_removed p c k h e.op l.0 (due p e h l) (above k (removed_by (follows_session c) h) f) b)
+    by_old true f = let g = leb-true k (removed_by (follows_session c) h) f in seen_to_stays p c k e h v l done (a, sent g) (i.removed c k a g)
+    by_old false f = new (newly_removed p c k h e.op l.0 (due p e h l) (leb-false k (removed_by (follows_session c) h) f) b)
 
 -- Histories. -------------------------------------------------------------------------------------------
 

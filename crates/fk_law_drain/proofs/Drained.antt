@@ -3,6 +3,7 @@ use Rattle.std.specs.Prelude.{◌==◌, ◌&&◌, ◌||◌, if◌then◌else◌,
 use Rattle.std.proofs.Common.{◌≡◌, ℕ, zero, suc, ◌+◌, ◌≤◌, ◌⊎◌, inl, inr, Bool, true, false, List, [], ◌∷◌, length, refl, sym, ◌∙◌, ap, subst, arith, Option, Some, None}
 use Rattle.std.proofs.lemmas.Bool.{false≢true, cond_both}
 use Rattle.std.proofs.lemmas.Bool.Decides.{nat_tests}
+use Rattle.std.proofs.lemmas.Option.{same_Some, none-some}
 use Rattle.fk_tree.specs.Ask.{path_asked}
 use Rattle.fk_tree.specs.Watch.{kind_asked}
 use Rattle.fk_tree.specs.declared.request.Query.{Query}
@@ -27,7 +28,6 @@ use Rattle.fk_law.proofs.Outcomes.{applied_is_committed}
 use Rattle.fk_law.proofs.Pushing.{push_bound}
 use Rattle.fk_law_client.specs.Lines.{IsAmong, kept_after}
 use Rattle.fk_law_client.proofs.Kept.{client_after}
-use Rattle.fk_law_client.proofs.Messages.{none_some, some_same}
 use Rattle.fk_law_reply.specs.Plans.{HasFittingVerbs}
 use Rattle.fk_law_reply.specs.Reads.{IsMadeRead}
 use Rattle.fk_law_reply.proofs.Finding.{reads_show_the_tree}
@@ -81,8 +81,8 @@ want_registers : (s : Sight) (i n : ℕ) (w : Want) (q : Query) (b : Bool) → w
 want_registers s i n w q b f e = registers_something s i n q (subst (λ z. is_idle (register_for s i n z) ≡ true) f e)
 
 asked_registers : (s : Sight) (i n : ℕ) (o : Option Ask) (a : Ask) (q : Query) (b : Bool) → o ≡ Some a → a.want ≡ Reads q b → is_idle (register_asked s i n o) ≡ true → ⊥
-asked_registers s i n None a q b f g e = absurd (none_some a f)
-asked_registers s i n (Some x) a q b f g e = want_registers s i n x.want q b (ap (λ z. z.want) (some_same x a f) ∙ g) e
+asked_registers s i n None a q b f g e = absurd (none-some a f)
+asked_registers s i n (Some x) a q b f g e = want_registers s i n x.want q b (ap (λ z. z.want) (same_Some x a f) ∙ g) e
 
 watch_idle : (p : Plan) (c : ℕ) (h : List Entry) (o : Op) (r : Option Reading) → ((x : Reading) → r ≡ Some x → IsMadeRead p c h (seen_by c h) (client_of p c h).begun x) → is_idle (watch_or (sight_of p c h) (client_of p c h) r o) ≡ true → (r ≡ None) × (is_idle o ≡ true)
 watch_idle p c h o None f e = (refl, e)
@@ -106,7 +106,7 @@ begin_idle s x (Some a) e f = absurd (begins_something s (x.begun + 1) x.closed 
 
 no_message : (ms : List Message) → first_message ms ≡ None → ms ≡ []
 no_message [] e = refl
-no_message (m ∷ ms) e = absurd (none_some m (sym e))
+no_message (m ∷ ms) e = absurd (none-some m (sym e))
 
 -- What an idle client keeps. ---------------------------------------------------------------------------
 
@@ -129,12 +129,12 @@ is_unknown Open e f = refl
 is_unknown (Plain cd) e f = absurd (false≢true (sym e))
 is_unknown (Expired at) e f = absurd (false≢true (sym e))
 is_unknown (Settled (Passed loss)) e f = absurd (false≢true (sym e))
-is_unknown (Settled (Committed t)) e f = absurd (none_some t (sym f))
-is_unknown (Settled (Refused cd place at)) e f = absurd (none_some at (sym f))
+is_unknown (Settled (Committed t)) e f = absurd (none-some t (sym f))
+is_unknown (Settled (Refused cd place at)) e f = absurd (none-some at (sym f))
 
 not_sought : (i : ℕ) (o : Option ℕ) → target_with i o ≡ None → o ≡ None
 not_sought i None e = refl
-not_sought i (Some n) e = absurd (none_some (record { command = i; number = n }) (sym e))
+not_sought i (Some n) e = absurd (none-some (record { command = i; number = n }) (sym e))
 
 pub empty_head : (given removed : ℕ) → head_among given removed ≡ None → given ≤ removed
 empty_head given removed e = grind (arith, nat_tests)
@@ -204,7 +204,7 @@ idle_is_finished p c h v l a b e = record { pings = pinged.0; inbox = inbox; kep
 
 begun_all : (xs : List Ask) (n : ℕ) → item_after xs n ≡ None → length xs ≤ n
 begun_all [] n e = omega arith
-begun_all (x ∷ xs) zero e = absurd (none_some x (sym e))
+begun_all (x ∷ xs) zero e = absurd (none-some x (sym e))
 begun_all (x ∷ xs) (suc n) e = let a = begun_all xs n e in omega (arith, a)
 
 begun_all_of : (xs : List Ask) (n : ℕ) → nth xs (n + 1) ≡ None → length xs ≤ n
@@ -234,27 +234,27 @@ finished_answered p c h xs l a e x = record { commands = commands_answered c h x
 
 neither : {A : Type 0} → (o q : Option A) → or_else o q ≡ None → (o ≡ None) × (q ≡ None)
 neither None q e = (refl, e)
-neither (Some x) q e = absurd (none_some x (sym e))
+neither (Some x) q e = absurd (none-some x (sym e))
 
 pub no_step : (ns : List ℕ) → step_of_first ns ≡ None → ns ≡ []
 no_step [] e = refl
-no_step (n ∷ ns) e = absurd (none_some (event.Step n) (sym e))
+no_step (n ∷ ns) e = absurd (none-some (event.Step n) (sym e))
 
 pub no_note : (o : Option ℕ) → tell_where o ≡ None → o ≡ None
 no_note None e = refl
-no_note (Some w) e = absurd (none_some event.Watch (sym e))
+no_note (Some w) e = absurd (none-some event.Watch (sym e))
 
 pub no_push : (o : Option ℕ) → lead_where o ≡ None → o ≡ None
 no_push None e = refl
-no_push (Some t) e = absurd (none_some event.Leader (sym e))
+no_push (Some t) e = absurd (none-some event.Leader (sym e))
 
 no_request : (c : ℕ) (o : Option ℕ) → deliver_where c o ≡ None → o ≡ None
 no_request c None e = refl
-no_request c (Some k) e = absurd (none_some (event.Deliver c) (sym e))
+no_request c (Some k) e = absurd (none-some (event.Deliver c) (sym e))
 
 no_turn : (c : ℕ) (b : Bool) (q : Option Event) → (if b then q else Some (event.Client c)) ≡ None → (b ≡ true) × (q ≡ None)
 no_turn c true q e = (refl, e)
-no_turn c false q e = absurd (none_some (event.Client c) (sym e))
+no_turn c false q e = absurd (none-some (event.Client c) (sym e))
 
 -- these are the plan's clients beyond the first n
 clients_answered : (p : Plan) (h : List Entry) (xs : List (List Ask)) (n : ℕ) → HasFittingVerbs p → IsHistory p h → leader_head h ≡ None → ((m : ℕ) → item_after xs m ≡ item_after p.asks (n + m)) → deliver_first xs (suc n) h ≡ None → client_first p xs (suc n) h ≡ None → ClientsAnswered p xs (suc n) h
@@ -309,7 +309,7 @@ drained_deployment_is_answered d h l e = drained_is_answered (plan_of d) h (depl
 
 -- Schedules. -------------------------------------------------------------------------------------------
 
-emptied : (p : Plan) (h k : List Entry) → Empties p h k → next_of_drain p k ≡ None
+pub emptied : (p : Plan) (h k : List Entry) → Empties p h k → next_of_drain p k ≡ None
 emptied p h _ (Emptied _ e) = e
 emptied p h k (Goes _ _ x e r) = emptied p (x ∷ h) k r
 

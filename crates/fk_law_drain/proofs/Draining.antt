@@ -3,6 +3,7 @@ use Rattle.std.specs.Prelude.{◌==◌, ◌||◌, if◌then◌else◌, nat_lt, m
 use Rattle.std.proofs.Common.{◌≡◌, ◌≢◌, ℕ, zero, suc, ◌+◌, ◌≤◌, ◌<◌, ◌++◌, ◌⊎◌, inl, inr, Bool, true, false, List, [], ◌∷◌, refl, sym, ◌∙◌, ap, subst, arith, Option, Some, None}
 use Rattle.std.proofs.lemmas.Bool.{false≢true}
 use Rattle.std.proofs.lemmas.Bool.Decides.{nat_tests}
+use Rattle.std.proofs.lemmas.Option.{same_Some, none-some}
 use Rattle.fk_base.specs.Path.{PathNames}
 use Rattle.fk_tree.specs.Sorted.{has_path}
 use Rattle.fk_tree.specs.declared.request.Request.{Request}
@@ -13,7 +14,7 @@ use Rattle.fk_print.specs.declared.op.Op.{Op}
 use Rattle.fk_print.specs.declared.op.Op.TheVariants as op
 use Rattle.fk_spec.specs.Plan.{Plan}
 use Rattle.fk_spec.specs.Start as start
-use Rattle.fk_spec.specs.Start.{Follows, Notifies, Start, pushes_of, sends_of, Task, clock_after, clock_of, count_start, push_of, request_of, started_in, starts_of, task_of}
+use Rattle.fk_spec.specs.Start.{Follows, Notifies, pushes_of, sends_of, Task, clock_after, clock_of, count_start, request_of, started_in, starts_of}
 use Rattle.fk_spec.specs.Locks.{Grant, grant_in, granted, has_released, last_grant, may_grant}
 use Rattle.fk_spec.specs.Settling.{settled_in}
 use Rattle.fk_spec.specs.Lanes.{follows_session, head_among, leader_head, leads, notes_of, notifies, removed_by, session_head, watch_head}
@@ -27,7 +28,6 @@ use Rattle.fk_law.proofs.Locking.{lock_names_a_granted_path, locks_are_followers
 use Rattle.fk_law.proofs.Moving.{place_step}
 use Rattle.fk_law.proofs.Numbers.{itself}
 use Rattle.fk_law.proofs.Starting.{place_bound, task_bound}
-use Rattle.fk_law_client.proofs.Messages.{none_some, some_same}
 use Rattle.fk_law_drain.specs.Draining.{Begins, Goes, IsCalm, IsHolder, IsUnhindered, WorksOnTheHead, DrainsAreCalm, DrainsAreUnhindered}
 use Rattle.fk_law_drain.proofs.Choosing.{Chooses, Delivers, Leads, Steps, Tells, Turns, drain_chooses, none_stands}
 use Rattle.fk_law_drain.proofs.Delivering.{head_is}
@@ -67,8 +67,8 @@ start_calm p n t e h l i a s f w = record {
   last = f ∙ sym (ap (λ z. count_start z (starts_of h)) s.started);
   one = λ m. place_step p m h e.op (place_of p m h) (λ x. is_absent x ≡ false → m ≡ n)
       (λ _ b. absurd (false≢true (sym b ∙ none_stands p m h l.0 a)))
-      (λ x q b _. sym b ∙ sym (ap (λ z. z.function) (some_same (record { function = n; task = t }) x (sym s.started ∙ q))))
-      (λ b _. absurd (none_some m (sym s.acts_none ∙ b)));
+      (λ x q b _. sym b ∙ sym (ap (λ z. z.function) (same_Some (record { function = n; task = t }) x (sym s.started ∙ q))))
+      (λ b _. absurd (none-some m (sym s.acts_none ∙ b)));
   works = subst (WorksOnTheHead (e ∷ h)) (sym (started_place p n t e h s)) w;
   own = λ path _ g. absurd (new path (subst (λ z. has_path path z ≡ true) (other_granted n e.op (granted n h) s.grants) g));
   free = λ path. may_stay p n e h path s.grants (none_hold p (starts_of h) h path l.0 a (i.free path));
@@ -91,17 +91,17 @@ pub client_acts : (o : Op) (c : ℕ) → client_in o ≡ Some c → IsIdleOp o
 client_acts o c e = record { starts = grind arith; acts = grind arith; grants = grants o c e; acks = acks o c e; settles = λ h. settles h o c e }
   where
     grants : (o : Op) (c : ℕ) → client_in o ≡ Some c → NoGrant o
-    grants (op.LockOk n path) c e = absurd (none_some c e)
+    grants (op.LockOk n path) c e = absurd (none-some c e)
     grants o c e = tt
 
     acks : (o : Op) (c : ℕ) → client_in o ≡ Some c → NotAck o
-    acks (op.AckOk n) c e = absurd (none_some c e)
+    acks (op.AckOk n) c e = absurd (none-some c e)
     acks o c e = tt
 
     settles : (h : List Entry) (o : Op) (c : ℕ) → client_in o ≡ Some c → settled_in h o ≡ None
-    settles h (op.CommitOk n t) c e = absurd (none_some c e)
-    settles h (op.RefuseOk n cd place at) c e = absurd (none_some c e)
-    settles h (op.LostOk n) c e = absurd (none_some c e)
+    settles h (op.CommitOk n t) c e = absurd (none-some c e)
+    settles h (op.RefuseOk n cd place at) c e = absurd (none-some c e)
+    settles h (op.LostOk n) c e = absurd (none-some c e)
     settles h o c e = refl
 
 pub unmoved : (p : Plan) (n : ℕ) (e : Entry) (h : List Entry) → IsIdleOp e.op → place_of p n (e ∷ h) ≡ place_of p n h
@@ -235,7 +235,7 @@ crash_begins p n m ns e h q w = by_absent (is_absent (place_of p n h)) refl
         idle : e.op ≡ op.Idle
         idle = q ∙ ap (λ d. if d then op.Idle else op.Crash n) a
     by_absent false a = record {
-      flies = λ k f. flies_other k (place_step p k h e.op (place_of p k h) (λ x. is_absent x ≡ false → (k ≢ n) × (is_absent (place_of p k h) ≡ false)) (λ b c. (λ d. b (ap actor crash ∙ ap Some (sym d)), c)) (λ s b _ _. absurd (none_some s (sym (ap started_in crash) ∙ b))) (λ b c. absurd (false≢true (sym c ∙ (ap (λ o. is_absent (moved p h o (place_of p k h))) crash ∙ ap is_absent (crashed p h n (place_of p k h)))))) f);
+      flies = λ k f. flies_other k (place_step p k h e.op (place_of p k h) (λ x. is_absent x ≡ false → (k ≢ n) × (is_absent (place_of p k h) ≡ false)) (λ b c. (λ d. b (ap actor crash ∙ ap Some (sym d)), c)) (λ s b _ _. absurd (none-some s (sym (ap started_in crash) ∙ b))) (λ b c. absurd (false≢true (sym c ∙ (ap (λ o. is_absent (moved p h o (place_of p k h))) crash ∙ ap is_absent (crashed p h n (place_of p k h)))))) f);
       ran_out = λ path g f. w.ran_out path g (sym (ap (λ o. grant_in path (clock_of h) o (last_grant path h)) crash) ∙ f);
     }
       where
@@ -306,15 +306,15 @@ absent_is (Telling w t s) e = absurd (false≢true e)
 absent_is (Beating c s) e = absurd (false≢true e)
 
 start_unhindered : (n : ℕ) (t : Task) (o : Op) → StartsIt o n t → IsUnhindered Absent o
-start_unhindered n t (op.AckGone m) s = absurd (none_some _ s.started)
-start_unhindered n t (op.Crash m) s = absurd (none_some _ s.started)
-start_unhindered n t (op.Fault m word) s = absurd (none_some _ s.started)
+start_unhindered n t (op.AckGone m) s = absurd (none-some _ s.started)
+start_unhindered n t (op.Crash m) s = absurd (none-some _ s.started)
+start_unhindered n t (op.Fault m word) s = absurd (none-some _ s.started)
 start_unhindered n t o s = tt
 
 turn_unhindered : (c : ℕ) (o : Op) → client_in o ≡ Some c → IsUnhindered Absent o
-turn_unhindered c (op.AckGone m) e = absurd (none_some c e)
-turn_unhindered c (op.Crash m) e = absurd (none_some c e)
-turn_unhindered c (op.Fault m word) e = absurd (none_some c e)
+turn_unhindered c (op.AckGone m) e = absurd (none-some c e)
+turn_unhindered c (op.Crash m) e = absurd (none-some c e)
+turn_unhindered c (op.Fault m word) e = absurd (none-some c e)
 turn_unhindered c o e = tt
 
 chosen_unhindered : (p : Plan) (x : Entry) (h : List Entry) (v : Event) → IsHistory p (x ∷ h) → IsCalm p (starts_of h) h → x.event ≡ v → Chooses p h v → IsUnhindered (place_of p (starts_of h) h) x.op

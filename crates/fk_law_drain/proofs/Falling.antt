@@ -2,6 +2,7 @@
 use Rattle.std.specs.Prelude.{◌==◌, ◌-◌, if◌then◌else◌}
 use Rattle.std.proofs.Common.{◌≡◌, ℕ, ◌+◌, ◌≤◌, inl, Bool, true, false, List, [], ◌∷◌, length, refl, sym, ◌∙◌, ap, subst, arith, Option, Some, None}
 use Rattle.std.proofs.lemmas.Bool.Decides.{nat_tests}
+use Rattle.std.proofs.lemmas.Option.{none-some}
 use Rattle.fk_print.specs.declared.entry.Entry.{Entry}
 use Rattle.fk_print.specs.declared.event.Event.{Event}
 use Rattle.fk_print.specs.declared.event.Event.TheVariants as event
@@ -9,10 +10,9 @@ use Rattle.fk_print.specs.declared.op.Op.{Op}
 use Rattle.fk_print.specs.declared.op.Op.TheVariants as op
 use Rattle.fk_spec.specs.Plan.{Plan, asks_in, is_client}
 use Rattle.fk_spec.specs.Start as start
-use Rattle.fk_spec.specs.Start.{Follows, Notifies, Origin, Start, Task, count_push, count_sent, count_start, or_else, pushed_in, pushes_of, request_of, sends_of, sent_in, started_in, starts_of, task_of}
+use Rattle.fk_spec.specs.Start.{Follows, Notifies, Task, count_start, or_else, pushes_of, starts_of}
 use Rattle.fk_spec.specs.Lanes.{follows_session, head_among, leads, note_count, notes_of, notifies, removed_by}
 use Rattle.fk_spec.specs.Follower.{begin}
-use Rattle.fk_spec.specs.Leader.{next_leader}
 use Rattle.fk_spec.specs.Leader as leader
 use Rattle.fk_spec.specs.Teller.{Note, note_in, note_of}
 use Rattle.fk_spec.specs.Watches.{swept_by}
@@ -21,7 +21,6 @@ use Rattle.fk_spec.specs.Function.{Place, Absent, Following, Leading, in_flight,
 use Rattle.fk_spec.specs.Next.{IsHistory, names_client}
 use Rattle.fk_law.specs.Due.{IsDue}
 use Rattle.fk_law.proofs.Due.{due}
-use Rattle.fk_law_client.proofs.Messages.{none_some}
 use Rattle.fk_law_client.proofs.Operating.{client_operations_say}
 use Rattle.fk_law_reply.specs.Plans.{HasFittingVerbs}
 use Rattle.fk_law_drain.specs.Draining.{IsCalm, WorksOnTheHead}
@@ -37,16 +36,16 @@ use Rattle.fk_law_drain.proofs.StepsFall.{ByClients, ByCommands, ByFollower, ByL
 -- Starts. ----------------------------------------------------------------------------------------------
 
 start_sends_none : (o : Op) (n : ℕ) (t : Task) → StartsIt o n t → NoSend o
-start_sends_none (op.Send d i k) n t s = absurd (none_some _ s.started)
-start_sends_none (op.Evict m k) n t s = absurd (none_some _ s.started)
+start_sends_none (op.Send d i k) n t s = absurd (none-some _ s.started)
+start_sends_none (op.Evict m k) n t s = absurd (none-some _ s.started)
 start_sends_none o n t s = tt
 
 start_pushes_none : (o : Op) (n : ℕ) (t : Task) → StartsIt o n t → NoPush o
-start_pushes_none (op.Push m k) n t s = absurd (none_some _ s.started)
+start_pushes_none (op.Push m k) n t s = absurd (none-some _ s.started)
 start_pushes_none o n t s = tt
 
 start_notes_none : (o : Op) (n : ℕ) (t : Task) → StartsIt o n t → NoNote o
-start_notes_none (op.Notify m k w) n t s = absurd (none_some _ s.started)
+start_notes_none (op.Notify m k w) n t s = absurd (none-some _ s.started)
 start_notes_none o n t s = tt
 
 record Same (p : Plan) (e : Entry) (h : List Entry) : Type 0 where
@@ -98,11 +97,11 @@ tell_falls p w e h x s = ByTeller s.commands s.requests refl s.pushes refl s.not
 -- Turns. -----------------------------------------------------------------------------------------------
 
 turn_pushes_none : (c : ℕ) (o : Op) → client_in o ≡ Some c → NoPush o
-turn_pushes_none c (op.Push n t) q = absurd (none_some c q)
+turn_pushes_none c (op.Push n t) q = absurd (none-some c q)
 turn_pushes_none c o q = tt
 
 turn_notes_none : (c : ℕ) (o : Op) → client_in o ≡ Some c → NoNote o
-turn_notes_none c (op.Notify n t w) q = absurd (none_some c q)
+turn_notes_none c (op.Notify n t w) q = absurd (none-some c q)
 turn_notes_none c o q = tt
 
 turned : (p : Plan) (c : ℕ) (e : Entry) (h : List Entry) → is_client p c ≡ true → client_in e.op ≡ Some c → TurnFalls p c e h → Falls (parts p (e ∷ h) Absent) (parts p h Absent)

@@ -1,8 +1,9 @@
 -- Where no push and no note waits, no look is held.
 use Rattle.std.specs.Prelude.{if◌then◌else◌, ◌==◌, ◌||◌, is_some}
 use Rattle.std.proofs.Common.{◌≡◌, ℕ, ◌≤◌, ◌⊎◌, inl, inr, Bool, true, false, List, [], ◌∷◌, refl, subst, arith, Option, Some, None}
-use Rattle.std.proofs.lemmas.Bool.{false≢true}
+use Rattle.std.proofs.lemmas.Bool.{false≢true, or_right}
 use Rattle.std.proofs.lemmas.Bool.Decides.{nat_tests}
+use Rattle.std.proofs.lemmas.Option.{none-some}
 use Rattle.fk_print.specs.declared.entry.Entry.{Entry}
 use Rattle.fk_spec.specs.Plan.{Plan}
 use Rattle.fk_spec.specs.Start.{pushes_of}
@@ -19,11 +20,10 @@ use Rattle.fk_law_watch.specs.Telling.{is_announced}
 use Rattle.fk_law_watch.proofs.Epochs.{epoch_has_fired}
 use Rattle.fk_law_watch.proofs.Handing.{fired_push_is_noted_before_done}
 use Rattle.fk_law_watch.proofs.Noting.{fired_at_its_push, note_bound}
-use Rattle.fk_law_watch.proofs.SetWatches.{fired_watch_fired_at_its_first_change, or_right}
+use Rattle.fk_law_watch.proofs.SetWatches.{fired_watch_fired_at_its_first_change}
 use Rattle.fk_law_watch.proofs.Sweeps.{swept_committed}
 use Rattle.fk_law_watch.proofs.Telling.{noted_at, removed_note_is_told, told_push_is_announced}
 use Rattle.fk_law_client.specs.Operations.{held_in_epoch}
-use Rattle.fk_law_client.proofs.Messages.{none_some}
 use Rattle.fk_law_held.specs.Announced.{TellsOf}
 use Rattle.fk_law_held.proofs.Announcing.{inbox_tells_of_announced_watches}
 use Rattle.fk_law_drain.specs.Looking.{NoLookIsHeld}
@@ -31,7 +31,7 @@ use Rattle.fk_law_drain.proofs.Drained.{empty_head}
 
 -- the first held number is one of these, and held
 first_is : (ids held : List ℕ) (id : ℕ) → first_held ids held ≡ Some id → (contains id ids ≡ true) × (contains id held ≡ true)
-first_is [] held id e = absurd (none_some id e)
+first_is [] held id e = absurd (none-some id e)
 first_is (x ∷ xs) held id e = by_held (contains x held) refl (λ f. first_is xs held id f) e
   where
     own : Some x ≡ Some id → contains x held ≡ true → (((x == id) || contains id xs) ≡ true) × (contains id held ≡ true)
@@ -71,7 +71,7 @@ fired_is_announced p id h f l a b e = by_note (fired_push_is_noted_before_done p
         told_push_is_announced p id h f l e (subst (λ z. is_told z h ≡ true) x.of_it (removed_note_is_told p x.place h x.note l x.noted (omega (arith, y, m))))
 
     by_note : (fired_at p f.tx h ≡ []) ⊎ (is_noted f.tx h ≡ true) → is_announced id h ≡ true
-    by_note (inl n) = absurd (none_some f (subst (λ z. firing_with id z ≡ Some f) n (fired_at_its_push p id h f l e)))
+    by_note (inl n) = absurd (none-some f (subst (λ z. firing_with id z ≡ Some f) n (fired_at_its_push p id h f l e)))
     by_note (inr n) = noted n
 
 pub no_look_is_held : NoLookIsHeld

@@ -3,6 +3,7 @@ use Rattle.std.specs.Prelude.{◌||◌, if◌then◌else◌, max}
 use Rattle.std.proofs.Common.{◌≡◌, ℕ, zero, suc, ◌+◌, ◌≤◌, ◌++◌, inl, inr, Bool, true, false, List, [], ◌∷◌, refl, sym, ◌∙◌, ap, subst, arith, Option, Some, None}
 use Rattle.std.proofs.lemmas.Bool.{false≢true}
 use Rattle.std.proofs.lemmas.Bool.Decides.{nat_tests}
+use Rattle.std.proofs.lemmas.Option.{same_Some, none-some}
 use Rattle.fk_base.specs.Path.{PathNames}
 use Rattle.fk_base.specs.declared.code.Code.{Code}
 use Rattle.fk_print.specs.declared.entry.Entry.{Entry}
@@ -30,7 +31,6 @@ use Rattle.fk_law.proofs.Standing.{OnStanding, standing_step}
 use Rattle.fk_law_watch.specs.FirstNumbers.{ReadsAreReads}
 use Rattle.fk_law_watch.proofs.Sweeps.{swept_committed, swept_last}
 use Rattle.fk_law_client.specs.Tracking.{IsTrueResult, KeepsTrack}
-use Rattle.fk_law_client.proofs.Messages.{none_some, some_same}
 use Rattle.fk_law_client.proofs.Pushed.{KnowsUpTo, filled_up, knows_more, moves_up, origin_up, refused_up, sent_up}
 use Rattle.fk_law_client.proofs.Seen.{max_up, seen_published}
 use Rattle.fk_law_client.proofs.Tracking.{sent_tracked}
@@ -157,20 +157,20 @@ sweep_published p h l b = by_number (swept_of h) refl
     by_number (suc n) e = subst (λ z. z ≤ mark_of h) e (committed_is_published p (swept_of h) h l b (swept_committed p (swept_of h) h l (swept_last h (subst (λ z. 1 ≤ z) (sym e) (omega arith)))))
 
 result_published : (p : Plan) (c k n : ℕ) (h : List Entry) (r : Result) → HasFittingVerbs p → IsHistory p h → leader_head h ≡ None → IsTrueResult p c k h r → number_looked_for r ≡ Some n → n ≤ mark_of h
-result_published p c k n h (Settled (Committed t)) v l b i e = subst (λ z. z ≤ mark_of h) (some_same t n e) i.published
-result_published p c k n h (Settled (Refused cd place at)) v l b i e = let a = refused_known p c k place at cd h v.reads l i in let m = known_published p h l b in let s = some_same at n e in omega (arith, a, m, s)
-result_published p c k n h (Settled (Passed loss)) v l b i e = absurd (none_some n e)
-result_published p c k n h Open v l b i e = absurd (none_some n e)
-result_published p c k n h (Plain cd) v l b i e = absurd (none_some n e)
-result_published p c k n h (Expired at) v l b i e = absurd (none_some n e)
+result_published p c k n h (Settled (Committed t)) v l b i e = subst (λ z. z ≤ mark_of h) (same_Some t n e) i.published
+result_published p c k n h (Settled (Refused cd place at)) v l b i e = let a = refused_known p c k place at cd h v.reads l i in let m = known_published p h l b in let s = same_Some at n e in omega (arith, a, m, s)
+result_published p c k n h (Settled (Passed loss)) v l b i e = absurd (none-some n e)
+result_published p c k n h Open v l b i e = absurd (none-some n e)
+result_published p c k n h (Plain cd) v l b i e = absurd (none-some n e)
+result_published p c k n h (Expired at) v l b i e = absurd (none-some n e)
 
 first_published : (p : Plan) (c : ℕ) (h : List Entry) (ss : List Sent) (t : Target) → HasFittingVerbs p → IsHistory p h → leader_head h ≡ None → KeepsTrack p c h ss (client_of p c h).begun (sends_of c h) → target_sent by_result ss ≡ Some t → t.number ≤ mark_of h
-first_published p c h [] t v l b i e = absurd (none_some t e)
+first_published p c h [] t v l b i e = absurd (none-some t e)
 first_published p c h (s ∷ ss) t v l b i e = by_number (number_looked_for s.result) refl e
   where
     by_number : (o : Option ℕ) → number_looked_for s.result ≡ o → target_with s.command o ≡ Some t → t.number ≤ mark_of h
-    by_number None q f = absurd (none_some t f)
-    by_number (Some n) q f = subst (λ z. z ≤ mark_of h) (ap (λ z. z.number) (some_same (record { command = s.command; number = n }) t f)) (result_published p c s.k n h s.result v l b i.tracked.2 q)
+    by_number None q f = absurd (none-some t f)
+    by_number (Some n) q f = subst (λ z. z ≤ mark_of h) (ap (λ z. z.number) (same_Some (record { command = s.command; number = n }) t f)) (result_published p c s.k n h s.result v l b i.tracked.2 q)
 
 pub looked_for_is_published : LookedForIsPublished
 looked_for_is_published p c h t v l b e = by_reading (client_of p c h).reading refl e
@@ -183,7 +183,7 @@ looked_for_is_published p c h t v l b e = by_reading (client_of p c h).reading r
 
     by_flag : (r : Reading) (d : Bool) → (client_of p c h).reading ≡ Some r → (if d then target_sent by_result (client_of p c h).sent else Some (record { command = (client_of p c h).begun + 1; number = number_read (seen_by c h) r })) ≡ Some t → t.number ≤ mark_of h
     by_flag r true q f = sent f
-    by_flag r false q f = subst (λ z. z.number ≤ mark_of h) (some_same (record { command = (client_of p c h).begun + 1; number = number_read (seen_by c h) r }) t f) (read r q)
+    by_flag r false q f = subst (λ z. z.number ≤ mark_of h) (same_Some (record { command = (client_of p c h).begun + 1; number = number_read (seen_by c h) r }) t f) (read r q)
 
     by_reading : (o : Option Reading) → (client_of p c h).reading ≡ o → target_of by_result (seen_by c h) (client_of p c h) o ≡ Some t → t.number ≤ mark_of h
     by_reading None q f = sent f

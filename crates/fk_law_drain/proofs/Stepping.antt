@@ -3,6 +3,7 @@ use Rattle.std.specs.Prelude.{◌==◌, ◌||◌, if◌then◌else◌, nat_lt}
 use Rattle.std.proofs.Common.{◌≡◌, ◌≢◌, ℕ, ◌+◌, ◌≤◌, ◌++◌, ◌⊎◌, inl, inr, Bool, true, false, List, [], ◌∷◌, refl, sym, ◌∙◌, ap, subst, arith, Option, Some, None}
 use Rattle.std.proofs.lemmas.Bool.{false≢true}
 use Rattle.std.proofs.lemmas.Bool.Decides.{nat_tests}
+use Rattle.std.proofs.lemmas.Option.{same_Some, none-some}
 use Rattle.fk_base.specs.Path.{PathNames, same_path}
 use Rattle.fk_tree.specs.Sorted.{has_path}
 use Rattle.fk_tree.specs.declared.request.Request.{Request}
@@ -10,7 +11,7 @@ use Rattle.fk_print.specs.declared.entry.Entry.{Entry}
 use Rattle.fk_print.specs.declared.op.Op.{Op}
 use Rattle.fk_print.specs.declared.op.Op.TheVariants as op
 use Rattle.fk_spec.specs.Plan.{Plan}
-use Rattle.fk_spec.specs.Start.{Task, clock_of, count_start, request_of, started_in, starts_of}
+use Rattle.fk_spec.specs.Start.{Task, clock_of, count_start, request_of, starts_of}
 use Rattle.fk_spec.specs.Locks.{Grant, grant_in, granted, granted_in, has_released, last_grant, may_grant, releases}
 use Rattle.fk_spec.specs.Settling.{count_settling, settled_in, settled_of}
 use Rattle.fk_spec.specs.Lanes.{follows_session, leads, notifies, removed_by, removed_in}
@@ -18,7 +19,7 @@ use Rattle.fk_spec.specs.Follower.{Follower, next_for, next_with}
 use Rattle.fk_spec.specs.Follower as follower
 use Rattle.fk_spec.specs.Leader.{next_leader}
 use Rattle.fk_spec.specs.Leader as leader
-use Rattle.fk_spec.specs.Teller.{Note, next_teller, note_of}
+use Rattle.fk_spec.specs.Teller.{next_teller}
 use Rattle.fk_spec.specs.Teller as teller
 use Rattle.fk_spec.specs.Function.{Place, Absent, Following, Leading, Telling, Beating, actor, follow_on, is_absent, lead_on, moved, place_by, place_of, tell_on}
 use Rattle.fk_spec.specs.Next.{IsHistory}
@@ -34,8 +35,7 @@ use Rattle.fk_law.proofs.Numbers.{itself}
 use Rattle.fk_law.proofs.Pushing.{at_commit}
 use Rattle.fk_law.proofs.Sending.{sent_has_a_request}
 use Rattle.fk_law.proofs.Settled.{reached}
-use Rattle.fk_law.proofs.Starting.{follower_task}
-use Rattle.fk_law_client.proofs.Messages.{none_some, some_same}
+use Rattle.fk_law.proofs.Starting.{follower_task, no_start}
 use Rattle.fk_law_drain.specs.Draining.{HoldsLocks, IsCalm, IsHolder, IsUnhindered, SettlesNext, WorksOnTheHead}
 use Rattle.fk_law_drain.proofs.Unhindered.{GoesOn}
 
@@ -326,9 +326,6 @@ holds_none : (p : Plan) (n : ℕ) (h : List Entry) (path : PathNames) (x : Place
 holds_none p n h path x b i (inl y) = y
 holds_none p n h path x b i (inr y) = absurd (i (subst IsHolder b y.0))
 
-no_start : (o : Op) (n : ℕ) → actor o ≡ Some n → started_in o ≡ None
-no_start o n e = grind arith
-
 pub same_starts : (p : Plan) (n : ℕ) (e : Entry) (h : List Entry) → actor e.op ≡ Some n → starts_of (e ∷ h) ≡ starts_of h
 same_starts p n e h a = ap (λ z. count_start z (starts_of h)) (no_start e.op n a)
 
@@ -336,8 +333,8 @@ stepped_one : (p : Plan) (n m : ℕ) (e : Entry) (h : List Entry) → actor e.op
 stepped_one p n m e h a i =
     place_step p m h e.op (place_of p m h) (λ x. is_absent x ≡ false → m ≡ n)
     (λ _ f. i m f)
-    (λ s q _ _. absurd (none_some s (sym (no_start e.op n a) ∙ q)))
-    (λ b _. some_same m n (sym b ∙ a))
+    (λ s q _ _. absurd (none-some s (sym (no_start e.op n a) ∙ q)))
+    (λ b _. same_Some m n (sym b ∙ a))
 
 -- a step of the function in flight
 pub step_calm : (p : Plan) (n : ℕ) (e : Entry) (h : List Entry) → IsHistory p (e ∷ h) → IsCalm p n h → is_absent (place_of p n h) ≡ false → GoesOn n (place_of p n h) e.op → IsCalm p n (e ∷ h)

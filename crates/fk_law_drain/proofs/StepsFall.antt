@@ -3,20 +3,21 @@ use Rattle.std.specs.Prelude.{◌==◌, ◌-◌, if◌then◌else◌}
 use Rattle.std.proofs.Common.{◌≡◌, ℕ, ◌+◌, ◌<◌, ◌≤◌, ◌++◌, ◌⊎◌, inl, inr, Bool, true, false, List, [], ◌∷◌, length, refl, sym, ◌∙◌, ap, subst, arith, Option, Some, None}
 use Rattle.std.proofs.lemmas.Bool.{false≢true}
 use Rattle.std.proofs.lemmas.Bool.Decides.{nat_tests}
+use Rattle.std.proofs.lemmas.Option.{none-some}
 use Rattle.fk_tree.specs.declared.request.Request.{Request}
 use Rattle.fk_print.specs.declared.entry.Entry.{Entry}
 use Rattle.fk_print.specs.declared.op.Op.{Op}
 use Rattle.fk_print.specs.declared.op.Op.TheVariants as op
 use Rattle.fk_spec.specs.Plan.{Plan, asks_in, is_client}
 use Rattle.fk_spec.specs.Start as start
-use Rattle.fk_spec.specs.Start.{Follows, Notifies, Origin, Start, Task, count_push, count_sent, count_start, or_else, pushed_in, pushes_of, request_of, sends_of, sent_in, started_in, starts_of, task_of}
+use Rattle.fk_spec.specs.Start.{Follows, Notifies, Start, Task, count_push, count_sent, pushed_in, pushes_of, request_of, sends_of, sent_in, started_in, task_of}
 use Rattle.fk_spec.specs.Sight.{sight_of}
 use Rattle.fk_spec.specs.Lanes.{follows_session, leads, note_count, notes_of, notifies, removed_by, removed_in}
-use Rattle.fk_spec.specs.Follower.{Follower, begin, next_with}
+use Rattle.fk_spec.specs.Follower.{Follower, next_with}
 use Rattle.fk_spec.specs.Follower as follower
 use Rattle.fk_spec.specs.Leader.{next_leader}
 use Rattle.fk_spec.specs.Leader as leader
-use Rattle.fk_spec.specs.Teller.{Note, next_teller, note_in, note_of}
+use Rattle.fk_spec.specs.Teller.{next_teller}
 use Rattle.fk_spec.specs.Teller as teller
 use Rattle.fk_spec.specs.Client.{client_by, client_in, client_of}
 use Rattle.fk_spec.specs.Function.{Place, Absent, Following, Leading, Telling, Beating, actor, follow_on, is_absent, lead_on, moved, place_of, tell_on}
@@ -30,8 +31,7 @@ use Rattle.fk_law.proofs.Due.{due}
 use Rattle.fk_law.proofs.Leading.{leader_at_or_below_the_head}
 use Rattle.fk_law.proofs.Sending.{request_stays}
 use Rattle.fk_law.proofs.Settled.{reached}
-use Rattle.fk_law.proofs.Starting.{follower_task, leader_task, place_for, teller_at_or_below_the_head}
-use Rattle.fk_law_client.proofs.Messages.{none_some}
+use Rattle.fk_law.proofs.Starting.{follower_task, leader_task, place_for, teller_at_or_below_the_head, no_client}
 use Rattle.fk_law_drain.specs.Draining.{WorksOnTheHead}
 use Rattle.fk_law_drain.specs.Falling.{IsLower, client_sum, client_weight, commands_left, follower_class, follower_rank, leader_class, leader_rank, lock_bound, puts_left, requests_left, teller_class, teller_rank, tells_left}
 use Rattle.fk_law_drain.proofs.ClientsFall.{NoSend}
@@ -86,9 +86,6 @@ falls x y (ByClients a b c d e f g k) = inr (a, inr (b, lower_after x.follower y
 pub same_commands : (p : Plan) (e : Entry) (h : List Entry) → client_in e.op ≡ None → client_sum (commands_left p (e ∷ h)) p.asks 1 ≡ client_sum (commands_left p h) p.asks 1
 same_commands p e h q = sum_same (commands_left p (e ∷ h)) (commands_left p h) p.asks 1 (λ d. ap (λ z. length (asks_in p d) - z.begun) (ap (λ z. client_by (sight_of p d h) z e.op (client_of p d h)) q))
 
-acts_no_client : (o : Op) (n : ℕ) → actor o ≡ Some n → client_in o ≡ None
-acts_no_client o n a = grind arith
-
 pub starts_no_client : (o : Op) (x : Start) → started_in o ≡ Some x → client_in o ≡ None
 starts_no_client o x a = grind arith
 
@@ -102,7 +99,7 @@ same_requests p e h s r = sum_same (requests_left (e ∷ h)) (requests_left h) p
 
 -- a function in a calm history sends no request
 calm_sends_none : (p : Plan) (n : ℕ) (h : List Entry) (o : Op) → IsDue p h o → actor o ≡ Some n → WorksOnTheHead h (place_of p n h) → NoSend o
-calm_sends_none p n h (op.Send d i k) d2 a w = absurd (none_some n a)
+calm_sends_none p n h (op.Send d i k) d2 a w = absurd (none-some n a)
 calm_sends_none p n h (op.Evict m k) d a w = absurd (subst (WorksOnTheHead h) (ap (λ z. place_of p z h) (sym (its a)) ∙ d.1) w)
   where
     its : Some m ≡ Some n → m ≡ n
@@ -173,7 +170,7 @@ follower_step_falls p n e h f l b g w o q = by_op o q
     x = ahead p h r.0 e.op f
 
     commands : client_sum (commands_left p (e ∷ h)) p.asks 1 ≡ client_sum (commands_left p h) p.asks 1
-    commands = same_commands p e h (acts_no_client e.op n g.1)
+    commands = same_commands p e h (no_client e.op n g.1)
 
     unsent : NoSend e.op
     unsent = calm_sends_none p n h e.op (due p e h l) g.1 (subst (WorksOnTheHead h) (sym b) w)
@@ -249,7 +246,7 @@ leader_step_falls p n t e h s l b g w o q = by_op o q
     after = place_after p n e h g.1 ∙ ap (moved p h e.op) b
 
     commands : client_sum (commands_left p (e ∷ h)) p.asks 1 ≡ client_sum (commands_left p h) p.asks 1
-    commands = same_commands p e h (acts_no_client e.op n g.1)
+    commands = same_commands p e h (no_client e.op n g.1)
 
     requests : client_sum (requests_left (e ∷ h)) p.asks 1 ≡ client_sum (requests_left h) p.asks 1
     requests = same_requests p e h (calm_sends_none p n h e.op (due p e h l) g.1 (subst (WorksOnTheHead h) (sym b) w)) (λ c. removed_elsewhere (follows_session c) n h (start.Leads t) e.op (removed_by (follows_session c) h) g.1 task refl)
@@ -302,7 +299,7 @@ teller_step_falls p n v t e h s l b g w o q = by_op o q
     after = place_after p n e h g.1 ∙ ap (moved p h e.op) b
 
     commands : client_sum (commands_left p (e ∷ h)) p.asks 1 ≡ client_sum (commands_left p h) p.asks 1
-    commands = same_commands p e h (acts_no_client e.op n g.1)
+    commands = same_commands p e h (no_client e.op n g.1)
 
     requests : client_sum (requests_left (e ∷ h)) p.asks 1 ≡ client_sum (requests_left h) p.asks 1
     requests = same_requests p e h (calm_sends_none p n h e.op (due p e h l) g.1 (subst (WorksOnTheHead h) (sym b) w)) (λ c. removed_elsewhere (follows_session c) n h (Notifies v) e.op (removed_by (follows_session c) h) g.1 task refl)

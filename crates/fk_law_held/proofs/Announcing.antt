@@ -1,8 +1,9 @@
 -- A held watch that was announced stands in its client's inbox; looks and waiting reads pass none.
 use Rattle.std.specs.Prelude.{◌==◌, ◌||◌, nat_le, is_some}
 use Rattle.std.proofs.Common.{◌≡◌, ℕ, ◌<◌, ◌≤◌, ◌++◌, ◌⊎◌, inl, inr, if◌then◌else◌, Bool, true, false, List, [], ◌∷◌, refl, sym, ◌∙◌, ap, subst, arith, Option, Some, None}
-use Rattle.std.proofs.lemmas.Bool.{false≢true}
+use Rattle.std.proofs.lemmas.Bool.{false≢true, leb-true, eqb-true, leb-false}
 use Rattle.std.proofs.lemmas.Bool.Decides.{nat_tests}
+use Rattle.std.proofs.lemmas.Option.{same_Some, none-some}
 use Rattle.fk_print.specs.declared.entry.Entry.{Entry}
 use Rattle.fk_print.specs.declared.op.Op.{Op}
 use Rattle.fk_print.specs.declared.op.Op.TheVariants as op
@@ -16,15 +17,16 @@ use Rattle.fk_spec.specs.Sight.{number_or_next, sight_of}
 use Rattle.fk_spec.specs.Watches.{Firing, Watch, firing_in, firing_of, given_of, has_id, published_epoch, set_number, set_watches}
 use Rattle.fk_spec.specs.Client.{acted_by, client_in, client_of, contains, first_held, by_result, number_read, Client, Reading, Sent, target_of}
 use Rattle.fk_spec.specs.Next.{IsHistory}
+use Rattle.fk_spec.specs.WatchNumbers.{watch_with}
 use Rattle.fk_law.specs.Due.{IsDue}
 use Rattle.fk_law.specs.LeaderLane.{sweeps}
 use Rattle.fk_law.proofs.Due.{due}
 use Rattle.fk_law.proofs.Leading.{mark_behind_sweep}
-use Rattle.fk_law.proofs.Numbers.{above, at_most, itself}
+use Rattle.fk_law.proofs.Numbers.{itself}
 use Rattle.fk_law_watch.specs.FirstNumbers.{ReadsAreReads}
 use Rattle.fk_law_watch.specs.Noting.{is_told}
 use Rattle.fk_law_watch.specs.Registering.{IsRegistration}
-use Rattle.fk_law_watch.specs.SetWatches.{IsOneOfTwo, set_watch, watch_with}
+use Rattle.fk_law_watch.specs.SetWatches.{IsOneOfTwo, set_watch}
 use Rattle.fk_law_watch.specs.Telling.{announces, is_announced}
 use Rattle.fk_law_watch.proofs.Epochs.{untold_fired_watch_is_in_the_epoch}
 use Rattle.fk_law_watch.proofs.Listing.{has_is, set_number_has}
@@ -34,7 +36,6 @@ use Rattle.fk_law_watch.proofs.Telling.{announced_has_fired, newly_fired, told_p
 use Rattle.fk_law_client.specs.Operations.{OperationSays}
 use Rattle.fk_law_client.proofs.Kept.{client_after, own_client}
 use Rattle.fk_law_client.proofs.Lines.{read_sought}
-use Rattle.fk_law_client.proofs.Messages.{none_some, same_number, some_same}
 use Rattle.fk_law_client.proofs.Operating.{client_operations_say}
 use Rattle.fk_law_reply.proofs.Finding.{reading_after}
 use Rattle.fk_law_held.specs.Announced.{TellsOf, InboxTellsOfAnnouncedWatches, LookPassesNoHeldWatch, WaitingReadIsClean}
@@ -112,20 +113,20 @@ take_first id c d m ms xs o e f n i = by_self (d == c) (subst (λ z. (d == z) �
     by_self true g = subst (λ z. TellsOf id (without_first z)) (sym f) (rest (subst (TellsOf id) f i))
     by_self false g = absurd (false≢true g)
 
-watch_same : (i j : ℕ) → lanes.Watch i ≡ lanes.Watch j → j ≡ i
+pub watch_same : (i j : ℕ) → lanes.Watch i ≡ lanes.Watch j → j ≡ i
 watch_same i j e = grind arith
 
 -- what a client takes leaves what else its inbox tells
 take_keeps : (p : Plan) (c id : ℕ) (h : List Entry) (o : Op) → client_in o ≡ Some c → IsDue p h o → ((j : ℕ) → o ≡ op.TakeWatch c j → id ≡ j → ⊥) → TellsOf id (inbox_of p c h) → TellsOf id (inbox_after (takes c o) (inbox_of p c h) (posted_in p c h o))
-take_keeps p c id h (op.TakeDone d k t) q a n i = let s = some_same d c q in take_first id c d (lanes.Done k t) a.0 (inbox_of p c h) None s (subst (λ z. inbox_of p z h ≡ lanes.Done k t ∷ a.0) s a.1) (λ x. grind arith) i
-take_keeps p c id h (op.TakeEvicted d k t) q a n i = let s = some_same d c q in take_first id c d (lanes.Evicted k t) a.0 (inbox_of p c h) None s (subst (λ z. inbox_of p z h ≡ lanes.Evicted k t ∷ a.0) s a.1) (λ x. grind arith) i
-take_keeps p c id h (op.TakeRefused d k) q a n i = let s = some_same d c q in take_first id c d (lanes.Kept k a.0) a.1 (inbox_of p c h) None s (subst (λ z. inbox_of p z h ≡ lanes.Kept k a.0 ∷ a.1) s a.2) (λ x. grind arith) i
-take_keeps p c id h (op.TakeLost d k) q a n i = let s = some_same d c q in take_first id c d (lanes.Kept k (Passed a.0)) a.1 (inbox_of p c h) None s (subst (λ z. inbox_of p z h ≡ lanes.Kept k (Passed a.0) ∷ a.1) s a.2) (λ x. grind arith) i
-take_keeps p c id h (op.TakeWatch d j) q a n i = let s = some_same d c q in take_first id c d (lanes.Watch j) a.0 (inbox_of p c h) None s (subst (λ z. inbox_of p z h ≡ lanes.Watch j ∷ a.0) s a.1) (λ x. n j (ap (λ z. op.TakeWatch z j) s) (watch_same j id x)) i
-take_keeps p c id h (op.TakePing d g) q a n i = let s = some_same d c q in take_first id c d (lanes.Ping g) a.0 (inbox_of p c h) None s (subst (λ z. inbox_of p z h ≡ lanes.Ping g ∷ a.0) s a.1) (λ x. grind arith) i
-take_keeps p c id h (op.Reply m s k) q a n i = absurd (none_some c q)
-take_keeps p c id h (op.Tell m s w) q a n i = absurd (none_some c q)
-take_keeps p c id h (op.Ping m s) q a n i = absurd (none_some c q)
+take_keeps p c id h (op.TakeDone d k t) q a n i = let s = same_Some d c q in take_first id c d (lanes.Done k t) a.0 (inbox_of p c h) None s (subst (λ z. inbox_of p z h ≡ lanes.Done k t ∷ a.0) s a.1) (λ x. grind arith) i
+take_keeps p c id h (op.TakeEvicted d k t) q a n i = let s = same_Some d c q in take_first id c d (lanes.Evicted k t) a.0 (inbox_of p c h) None s (subst (λ z. inbox_of p z h ≡ lanes.Evicted k t ∷ a.0) s a.1) (λ x. grind arith) i
+take_keeps p c id h (op.TakeRefused d k) q a n i = let s = same_Some d c q in take_first id c d (lanes.Kept k a.0) a.1 (inbox_of p c h) None s (subst (λ z. inbox_of p z h ≡ lanes.Kept k a.0 ∷ a.1) s a.2) (λ x. grind arith) i
+take_keeps p c id h (op.TakeLost d k) q a n i = let s = same_Some d c q in take_first id c d (lanes.Kept k (Passed a.0)) a.1 (inbox_of p c h) None s (subst (λ z. inbox_of p z h ≡ lanes.Kept k (Passed a.0) ∷ a.1) s a.2) (λ x. grind arith) i
+take_keeps p c id h (op.TakeWatch d j) q a n i = let s = same_Some d c q in take_first id c d (lanes.Watch j) a.0 (inbox_of p c h) None s (subst (λ z. inbox_of p z h ≡ lanes.Watch j ∷ a.0) s a.1) (λ x. n j (ap (λ z. op.TakeWatch z j) s) (watch_same j id x)) i
+take_keeps p c id h (op.TakePing d g) q a n i = let s = same_Some d c q in take_first id c d (lanes.Ping g) a.0 (inbox_of p c h) None s (subst (λ z. inbox_of p z h ≡ lanes.Ping g ∷ a.0) s a.1) (λ x. grind arith) i
+take_keeps p c id h (op.Reply m s k) q a n i = absurd (none-some c q)
+take_keeps p c id h (op.Tell m s w) q a n i = absurd (none-some c q)
+take_keeps p c id h (op.Ping m s) q a n i = absurd (none-some c q)
 take_keeps p c id h o q a n i = i
 
 client_announces : (c id : ℕ) (o : Op) → client_in o ≡ Some c → announces id o ≡ false
@@ -157,13 +158,13 @@ own_inbox p c id e h y l q x i f a = by_change x
       where
         either : (contains id (client_of p c h).held ≡ true) ⊎ (id ≡ j) → TellsOf id (inbox_of p c (e ∷ h))
         either (inl g) = keeps (λ m n w. no_take b j m (sym k ∙ n)) g
-        either (inr g) = let z = announced_has_fired p id h l.0 before in absurd (none_some z.0 (sym (registered_unfired p c b id e h l (k ∙ ap (λ m. op.WatchSet c b m) (sym g))) ∙ z.1))
+        either (inr g) = let z = announced_has_fired p id h l.0 before in absurd (none-some z.0 (sym (registered_unfired p c b id e h l (k ∙ ap (λ m. op.WatchSet c b m) (sym g))) ∙ z.1))
 
 not_its : (c d : ℕ) → (Some d ≡ Some c → ⊥) → (d == c) ≡ false
 not_its c d n = by_eq (d == c) refl
   where
     by_eq : (b : Bool) → (d == c) ≡ b → b ≡ false
-    by_eq true f = absurd (n (ap Some (same_number d c f)))
+    by_eq true f = absurd (n (ap Some (eqb-true d c f)))
     by_eq false f = refl
 
 pub takes_not : (c : ℕ) (o : Op) → (client_in o ≡ Some c → ⊥) → takes c o ≡ false
@@ -180,13 +181,13 @@ pub known_fired : (p : Plan) (id : ℕ) (h : List Entry) (w : Watch) (f : Firing
 known_fired p id h w f l k q = by_set (set_watch p id h) refl k
   where
     by_set : (o : Option Watch) → set_watch p id h ≡ o → or_else o (fired_watch (firing_of p id h)) ≡ Some w → f.watch ≡ w
-    by_set (Some v) e g = absurd (none_some f (sym (set_unfired p id h v l e) ∙ q))
-    by_set None e g = some_same f.watch w (sym (ap fired_watch q) ∙ g)
+    by_set (Some v) e g = absurd (none-some f (sym (set_unfired p id h v l e) ∙ q))
+    by_set None e g = same_Some f.watch w (sym (ap fired_watch q) ∙ g)
 
 -- a telling posts the message
 told_posts : (p : Plan) (c id : ℕ) (h : List Entry) (o : Op) → IsHistory p h → IsDue p h o → contains id (client_of p c h).held ≡ true → announces id o ≡ true → posted_in p c h o ≡ Some (lanes.Watch id)
 told_posts p c id h (op.Tell n s j) l d f a =
-    let k = same_number j id a in
+    let k = eqb-true j id a in
     let x = told_watch_is_of_its_client p n s j h l d in
     let y = held_watches_are_accounted_for p c id h l f in
     let w = known_fired p id h y.watch x.0 l y.known (subst (λ z. firing_of p z h ≡ Some x.0) k x.1) in
@@ -211,12 +212,12 @@ inbox_step : (p : Plan) (c id : ℕ) (e : Entry) (h : List Entry) → IsHistory 
 inbox_step p c id e h l i f a = by_client (client_in e.op) refl
   where
     by_client : (o : Option ℕ) → client_in e.op ≡ o → TellsOf id (inbox_of p c (e ∷ h))
-    by_client None q = other_inbox p c id e h l (λ k. none_some c (sym q ∙ k)) i f a
+    by_client None q = other_inbox p c id e h l (λ k. none-some c (sym q ∙ k)) i f a
     by_client (Some s) q = by_self (s == c) refl
       where
         by_self : (b : Bool) → (s == c) ≡ b → TellsOf id (inbox_of p c (e ∷ h))
-        by_self true g = let k = q ∙ ap Some (same_number s c g) in own_inbox p c id e h (acted_by (sight_of p c h) e.op (client_of p c h)) l k (held_change p c h e.op k) i (subst (λ x. contains id x.held ≡ true) (own_client p c e h k) f) a
-        by_self false g = other_inbox p c id e h l (λ k. false≢true (sym g ∙ subst (λ z. (z == c) ≡ true) (some_same c s (sym k ∙ q)) (itself c))) i f a
+        by_self true g = let k = q ∙ ap Some (eqb-true s c g) in own_inbox p c id e h (acted_by (sight_of p c h) e.op (client_of p c h)) l k (held_change p c h e.op k) i (subst (λ x. contains id x.held ≡ true) (own_client p c e h k) f) a
+        by_self false g = other_inbox p c id e h l (λ k. false≢true (sym g ∙ subst (λ z. (z == c) ≡ true) (same_Some c s (sym k ∙ q)) (itself c))) i f a
 
 pub inbox_tells_of_announced_watches : InboxTellsOfAnnouncedWatches
 inbox_tells_of_announced_watches p c id [] l f a = absurd (false≢true f)
@@ -229,8 +230,8 @@ first_none id [] held e f g = false≢true e
 first_none id (x ∷ ids) held e f g = by_held (contains x held) refl g (λ k m. first_none id ids held k f m)
   where
     by_held : (b : Bool) → contains x held ≡ b → (if b then Some x else first_held ids held) ≡ None → (contains id ids ≡ true → first_held ids held ≡ None → ⊥) → ⊥
-    by_held true k m n = none_some x (sym m)
-    by_held false k m n = by_or (x == id) (contains id ids) e (λ z. false≢true (sym k ∙ subst (λ y. contains y held ≡ true) (sym (same_number x id z)) f)) (λ z. n z m)
+    by_held true k m n = none-some x (sym m)
+    by_held false k m n = by_or (x == id) (contains id ids) e (λ z. false≢true (sym k ∙ subst (λ y. contains y held ≡ true) (sym (eqb-true x id z)) f)) (λ z. n z m)
 
 none_told : (id : ℕ) (ms : List Message) → ms ≡ [] → TellsOf id ms → ⊥
 none_told id [] e i = i
@@ -247,8 +248,8 @@ look_passes_no_held_watch p c i mark id e h f l q g k = by_mark (nat_le f.tx (ma
     by_told false t m = first_none id (published_epoch p h) (client_of p c h).held (untold_fired_watch_is_in_the_epoch p id h f l.0 k t m) g a.3
 
     by_mark : (b : Bool) → nat_le f.tx (mark_of h) ≡ b → mark_of h < f.tx
-    by_mark true m = absurd (by_told (is_told f.tx h) refl (at_most f.tx (mark_of h) m))
-    by_mark false m = above f.tx (mark_of h) m
+    by_mark true m = absurd (by_told (is_told f.tx h) refl (leb-true f.tx (mark_of h) m))
+    by_mark false m = leb-false f.tx (mark_of h) m
 
 -- Waiting reads. ---------------------------------------------------------------------------------------
 
@@ -256,7 +257,7 @@ sweep_beyond : (p : Plan) (t : ℕ) (h : List Entry) (o : Op) → IsDue p h o �
 sweep_beyond p t h o d e = grind (arith, nat_tests)
 
 no_sweep : (p : Plan) (id : ℕ) (h : List Entry) (o : Op) (c : ℕ) → client_in o ≡ Some c → firing_in p id h o ≡ None
-no_sweep p id h (op.SweepOk n t k) c q = absurd (none_some c q)
+no_sweep p id h (op.SweepOk n t k) c q = absurd (none-some c q)
 no_sweep p id h o c q = refl
 
 -- a firing is old, or beyond the mark
@@ -278,7 +279,7 @@ clean_old p c e h r v l q i b id f g k = either (fired_before p id e h f l k)
   where
     held : firing_of p id h ≡ Some f → (contains id (client_of p c h).held ≡ true) ⊎ ((j : ℕ) × (e.op ≡ op.WatchSet c j id)) → number_read (seen_by c h) r < f.tx
     held x (inl y) = i b id f y x
-    held x (inr y) = absurd (none_some f (sym (registered_unfired p c y.0 id e h l y.1) ∙ x))
+    held x (inr y) = absurd (none-some f (sym (registered_unfired p c y.0 id e h l y.1) ∙ x))
 
     either : (firing_of p id h ≡ Some f) ⊎ (mark_of h < f.tx) → number_read (seen_by c h) r < f.tx
     either (inl x) = held x (held_back p c id e h l g)
@@ -295,14 +296,14 @@ clean_look p c i m e h r v l q s b id f g k = either (fired_before p id e h f l 
 
     held : firing_of p id h ≡ Some f → (contains id (client_of p c h).held ≡ true) ⊎ ((j : ℕ) × (e.op ≡ op.WatchSet c j id)) → number_read (seen_by c h) r < f.tx
     held x (inl y) = let z = look_passes_no_held_watch p c i m id e h f l q y x in omega (arith, z, low)
-    held x (inr y) = absurd (none_some f (sym (registered_unfired p c y.0 id e h l y.1) ∙ x))
+    held x (inr y) = absurd (none-some f (sym (registered_unfired p c y.0 id e h l y.1) ∙ x))
 
     either : (firing_of p id h ≡ Some f) ⊎ (mark_of h < f.tx) → number_read (seen_by c h) r < f.tx
     either (inl x) = held x (held_back p c id e h l g)
     either (inr x) = omega (arith, x, low)
 
 clean_at : (p : Plan) (c : ℕ) (h : List Entry) (r : Reading) → ReadsAreReads p → IsHistory p h → (client_of p c h).reading ≡ Some r → CleanAt p c h (seen_by c h) (client_of p c h).begun r
-clean_at p c [] r v l q = absurd (none_some r q)
+clean_at p c [] r v l q = absurd (none-some r q)
 clean_at p c (e ∷ h) r v l q =
     reading_after p c e h (λ seen begun x. CleanAt p c (e ∷ h) seen begun x) v l
     (λ x f. clean_old p c e h x v l f (clean_at p c h x v l.0 f))

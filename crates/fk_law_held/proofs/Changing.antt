@@ -1,8 +1,9 @@
 -- What an operation makes of the watches that its client holds.
 use Rattle.std.specs.Prelude.{◌==◌, ◌||◌}
 use Rattle.std.proofs.Common.{◌≡◌, ℕ, ◌+◌, ◌++◌, ◌⊎◌, inl, inr, if◌then◌else◌, Bool, true, false, List, [], ◌∷◌, refl, sym, ◌∙◌, ap, arith, Option, Some, None}
-use Rattle.std.proofs.lemmas.Bool.{false≢true}
+use Rattle.std.proofs.lemmas.Bool.{false≢true, or_right, eqb-true}
 use Rattle.std.proofs.lemmas.Bool.Decides.{nat_tests}
+use Rattle.std.proofs.lemmas.Option.{same_Some}
 use Rattle.fk_print.specs.declared.entry.Entry.{Entry}
 use Rattle.fk_print.specs.declared.op.Op.{Op}
 use Rattle.fk_print.specs.declared.op.Op.TheVariants as op
@@ -11,9 +12,8 @@ use Rattle.fk_spec.specs.Settling.{Outcome}
 use Rattle.fk_spec.specs.Sight.{sight_of}
 use Rattle.fk_spec.specs.Client.{acted_by, by_result, client_in, client_of, close_if, contains, is_close, kept_outcome, looked, looked_at, looked_for, registers, settle_with, settled_as, with_held, without, Reading, Sent}
 use Rattle.fk_law.proofs.Numbers.{itself}
-use Rattle.fk_law_tree.proofs.Members.{or_left, or_right}
+use Rattle.fk_law_tree.proofs.Members.{or_left}
 use Rattle.fk_law_watch.proofs.SetWatches.{by_or}
-use Rattle.fk_law_client.proofs.Messages.{same_number, some_same}
 use Rattle.fk_law_held.specs.Held.{HeldChange, Left, Emptied, Dropped, Added}
 
 -- Lists of numbers. ------------------------------------------------------------------------------------
@@ -34,14 +34,14 @@ without_other id j [] e n = e
 without_other id j (x ∷ xs) e n = by_test (x == j) refl (λ k. without_other id j xs k n)
   where
     apart : (x == j) ≡ true → (x == id) ≡ true → ⊥
-    apart f g = n (sym (same_number x id g) ∙ same_number x j f)
+    apart f g = n (sym (eqb-true x id g) ∙ eqb-true x j f)
 
     by_test : (b : Bool) → (x == j) ≡ b → (contains id xs ≡ true → contains id (without j xs) ≡ true) → contains id (if b then without j xs else x ∷ without j xs) ≡ true
     by_test true f i = by_or (x == id) (contains id xs) e (λ k. absurd (apart f k)) i
     by_test false f i = by_or (x == id) (contains id xs) e (λ k. or_left (x == id) (contains id (without j xs)) k) (λ k. or_right (x == id) (contains id (without j xs)) (i k))
 
 append_has : (id j : ℕ) (xs : List ℕ) → contains id (xs ++ j ∷ []) ≡ true → (contains id xs ≡ true) ⊎ (id ≡ j)
-append_has id j [] e = by_or (j == id) false e (λ k. inr (sym (same_number j id k))) (λ k. absurd (false≢true k))
+append_has id j [] e = by_or (j == id) false e (λ k. inr (sym (eqb-true j id k))) (λ k. absurd (false≢true k))
 append_has id j (x ∷ xs) e = by_or (x == id) (contains id (xs ++ j ∷ [])) e (λ k. inl (or_left (x == id) (contains id xs) k)) (λ k. later (append_has id j xs k))
   where
     later : (contains id xs ≡ true) ⊎ (id ≡ j) → (((x == id) || contains id xs) ≡ true) ⊎ (id ≡ j)
@@ -105,8 +105,8 @@ kept_change p c k h o (Some w) n = Left n refl refl
 
 pub held_change : (p : Plan) (c : ℕ) (h : List Entry) (o : Op) → client_in o ≡ Some c → HeldChange p c h o (acted_by (sight_of p c h) o (client_of p c h))
 held_change p c h (op.TakeEvicted d k t) q = Emptied refl refl
-held_change p c h (op.TakeWatch d id) q = Dropped id (ap (λ z. op.TakeWatch z id) (some_same d c q)) refl refl
-held_change p c h (op.WatchSet d i id) q = Added i id (ap (λ z. op.WatchSet z i id) (some_same d c q)) refl refl
+held_change p c h (op.TakeWatch d id) q = Dropped id (ap (λ z. op.TakeWatch z id) (same_Some d c q)) refl refl
+held_change p c h (op.WatchSet d i id) q = Added i id (ap (λ z. op.WatchSet z i id) (same_Some d c q)) refl refl
 held_change p c h (op.LookOk d i m) q = look_change p c h (op.LookOk d i m) (client_of p c h).reading (λ id e. grind arith)
 held_change p c h (op.TakeRefused d k) q = kept_change p c k h (op.TakeRefused d k) (kept_outcome (sight_of p c h).head) (λ id e. grind arith)
 held_change p c h (op.TakeLost d k) q = kept_change p c k h (op.TakeLost d k) (kept_outcome (sight_of p c h).head) (λ id e. grind arith)

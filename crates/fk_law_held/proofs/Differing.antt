@@ -1,17 +1,18 @@
 -- The watches that a client holds differ, and each of its set watches is held.
 use Rattle.std.specs.Prelude.{◌==◌, ◌&&◌}
 use Rattle.std.proofs.Common.{◌≡◌, ℕ, ◌+◌, ◌≤◌, ◌++◌, ◌⊎◌, inl, inr, if◌then◌else◌, Bool, true, false, List, [], ◌∷◌, refl, sym, ◌∙◌, ap, subst, arith, Option, Some, None}
-use Rattle.std.proofs.lemmas.Bool.{false≢true}
+use Rattle.std.proofs.lemmas.Bool.{false≢true, eqb-true}
+use Rattle.std.proofs.lemmas.Option.{same_Some, none-some}
 use Rattle.fk_base.specs.Path.{PathNames, same_path}
 use Rattle.fk_tree.specs.Watch.{first_taken, has_touch, same_kind, takes}
 use Rattle.fk_tree.specs.declared.change.Change.{Change}
 use Rattle.fk_tree.specs.declared.change.Kind.{Kind}
 use Rattle.fk_tree.specs.declared.change.Touch.{Touch}
 use Rattle.fk_tree.proofs.Order.{same_path_is}
+use Rattle.fk_tree.proofs.Looking.{same_flip}
 use Rattle.fk_print.specs.declared.entry.Entry.{Entry}
 use Rattle.fk_print.specs.declared.op.Op.{Op}
 use Rattle.fk_print.specs.declared.op.Op.TheVariants as op
-use Rattle.fk_law_tree.proofs.Members.{flipped}
 use Rattle.fk_spec.specs.Plan.{Plan, Ask, Want, Unfit, Writes, Reads, asked}
 use Rattle.fk_spec.specs.Shown.{seen_by}
 use Rattle.fk_spec.specs.Start.{or_else}
@@ -21,18 +22,19 @@ use Rattle.fk_spec.specs.Sight.{sight_of}
 use Rattle.fk_spec.specs.Watches.{Firing, Watch, firing_of, has_id, last_sweep, set_after, set_watches, touches_of_push, watch_asked, watch_wanted, with_watch, firing_in}
 use Rattle.fk_spec.specs.Client.{acted_by, client_in, client_of, contains, number_read, registers, Client, Sent}
 use Rattle.fk_spec.specs.Next.{IsHistory}
+use Rattle.fk_spec.specs.WatchNumbers.{watch_with}
 use Rattle.fk_law.specs.Due.{IsDue}
 use Rattle.fk_law.proofs.Due.{due}
 use Rattle.fk_law_watch.specs.FirstNumbers.{ReadsAreReads}
 use Rattle.fk_law_watch.specs.Registering.{IsRegistration, number_from, number_of_read}
-use Rattle.fk_law_watch.specs.SetWatches.{set_watch, watch_with}
+use Rattle.fk_law_watch.specs.SetWatches.{set_watch}
 use Rattle.fk_law_watch.proofs.Listing.{append_with, kept_watch}
 use Rattle.fk_law_watch.proofs.SetWatches.{fired_watch_fired_at_its_first_change, set_watches_differ, watches_unique, or_stays}
 use Rattle.fk_law_watch.proofs.Sweeps.{last_most}
 use Rattle.fk_law_watch.proofs.Telling.{announced_has_fired}
 use Rattle.fk_law_client.specs.Operations.{OperationSays}
 use Rattle.fk_law_client.proofs.Kept.{client_after, own_client}
-use Rattle.fk_law_client.proofs.Messages.{inbox_messages, none_some, some_same, same_number}
+use Rattle.fk_law_client.proofs.Messages.{inbox_messages}
 use Rattle.fk_law_client.proofs.Operating.{client_operations_say}
 use Rattle.fk_law_client.proofs.Tracking.{first_true}
 use Rattle.fk_law_reply.proofs.Finding.{reading_after}
@@ -45,7 +47,7 @@ use Rattle.fk_law_held.proofs.Holding.{IsRegistered, held_watches_are_accounted_
 -- A waiting read. --------------------------------------------------------------------------------------
 
 pub waiting_read_registers : WaitingReadRegisters
-waiting_read_registers p c [] r v l q b = absurd (none_some r q)
+waiting_read_registers p c [] r v l q b = absurd (none-some r q)
 waiting_read_registers p c (e ∷ h) r v l q b =
     reading_after p c e h (λ seen begun x. x.looked ≡ true → registers (asked p c (begun + 1)) x.node ≡ true) v l
     (λ x f. waiting_read_registers p c h x v l.0 f)
@@ -56,7 +58,7 @@ waiting_read_registers p c (e ∷ h) r v l q b =
 -- Two held watches. ------------------------------------------------------------------------------------
 
 taken_touches : (path : PathNames) (k : Kind) (ts : List Touch) (x : Change) → first_taken path k ts ≡ Some x → has_touch path ts ≡ true
-taken_touches path k [] x e = absurd (none_some x e)
+taken_touches path k [] x e = absurd (none-some x e)
 taken_touches path k (t ∷ ts) x e = by_path (same_path t.path path) e (taken_touches path k ts x)
   where
     by_path : (b : Bool) → (if b && takes k t.change then Some t.change else first_taken path k ts) ≡ Some x → (first_taken path k ts ≡ Some x → has_touch path ts ≡ true) → (if b then true else has_touch path ts) ≡ true
@@ -75,7 +77,7 @@ unfired_set p id h w k q = by_set (set_watch p id h) refl k
   where
     by_set : (o : Option Watch) → set_watch p id h ≡ o → or_else o (fired_watch (firing_of p id h)) ≡ Some w → set_watch p id h ≡ Some w
     by_set (Some x) e g = e ∙ g
-    by_set None e g = absurd (none_some w (sym (ap fired_watch q) ∙ g))
+    by_set None e g = absurd (none-some w (sym (ap fired_watch q) ∙ g))
 
 -- a held watch of the path and kind that is registered hasn't fired
 same_unfired : (p : Plan) (c k i j : ℕ) (e : Entry) (h : List Entry) (w : Watch) → ReadsAreReads p → IsHistory p (e ∷ h) → e.op ≡ op.WatchSet c k i → (r : IsRegistration p h c k i) → contains j (client_of p c h).held ≡ true → known_watch p j h ≡ Some w → same_path w.path r.watch.path ≡ true → firing_of p j h ≡ None
@@ -114,10 +116,10 @@ differ_new p c k i j e h u w v l q f g m s t =
     y = held_watches_are_accounted_for p c j h l.0 f
 
     is_new : x.watch ≡ u
-    is_new = some_same x.watch u (sym (or_stays (set_watch p i (e ∷ h)) (fired_watch (firing_of p i (e ∷ h))) x.watch x.set_now) ∙ g)
+    is_new = same_Some x.watch u (sym (or_stays (set_watch p i (e ∷ h)) (fired_watch (firing_of p i (e ∷ h))) x.watch x.set_now) ∙ g)
 
     is_old : w ≡ y.watch
-    is_old = some_same w y.watch (sym m ∙ known_stays p j e h y.watch l y.known)
+    is_old = same_Some w y.watch (sym m ∙ known_stays p j e h y.watch l y.known)
 
     path : same_path y.watch.path r.watch.path ≡ true
     path = path_through u.path y.watch.path r.watch.path (subst (λ z. same_path u.path z.path ≡ true) is_old s) (subst (λ z. same_path z.path r.watch.path ≡ true) is_new x.of_it.1)
@@ -127,7 +129,7 @@ differ_new p c k i j e h u w v l q f g m s t =
 
     set_still : (set_watch p j (e ∷ h) ≡ Some y.watch) ⊎ ((z : Firing) × (firing_of p j (e ∷ h) ≡ Some z) × (z.watch ≡ y.watch)) → set_watch p j (e ∷ h) ≡ Some y.watch
     set_still (inl z) = z
-    set_still (inr z) = absurd (none_some z.0 (sym (subst (λ o. or_else (firing_in p j h o) (firing_of p j h) ≡ None) (sym q) (set_unfired p j h y.watch l.0 unfired)) ∙ z.1))
+    set_still (inr z) = absurd (none-some z.0 (sym (subst (λ o. or_else (firing_in p j h o) (firing_of p j h) ≡ None) (sym q) (set_unfired p j h y.watch l.0 unfired)) ∙ z.1))
 
 same_set : (c a b i j : ℕ) → op.WatchSet c a i ≡ op.WatchSet c b j → i ≡ j
 same_set c a b i j e = grind arith
@@ -140,25 +142,25 @@ held_watches_differ p c i j (e ∷ h) u w v l f g k m s t = either (λ x y. old 
     old x y n =
         let a = held_watches_are_accounted_for p c i h l.0 x in
         let b = held_watches_are_accounted_for p c j h l.0 y in
-        let q : u ≡ a.watch = some_same u a.watch (sym k ∙ known_stays p i e h a.watch l a.known) in
-        let r : w ≡ b.watch = some_same w b.watch (sym m ∙ known_stays p j e h b.watch l b.known) in
+        let q : u ≡ a.watch = same_Some u a.watch (sym k ∙ known_stays p i e h a.watch l a.known) in
+        let r : w ≡ b.watch = same_Some w b.watch (sym m ∙ known_stays p j e h b.watch l b.known) in
         n a.watch b.watch v l.0 x y a.known b.known (subst (λ z. same_path z.path b.watch.path ≡ true) q (subst (λ z. same_path u.path z.path ≡ true) r s)) (subst (λ z. same_kind z.kind b.watch.kind ≡ true) q (subst (λ z. same_kind u.kind z.kind ≡ true) r t))
 
     either : (contains i (client_of p c h).held ≡ true → contains j (client_of p c h).held ≡ true → i ≡ j) → (contains i (client_of p c h).held ≡ true) ⊎ ((a : ℕ) × (e.op ≡ op.WatchSet c a i)) → (contains j (client_of p c h).held ≡ true) ⊎ ((a : ℕ) × (e.op ≡ op.WatchSet c a j)) → i ≡ j
     either n (inl x) (inl y) = n x y
     either n (inr x) (inl y) = differ_new p c x.0 i j e h u w v l x.1 y k m s t
-    either n (inl x) (inr y) = sym (differ_new p c y.0 j i e h w u v l y.1 x m k (flipped w.path u.path ∙ s) (kind_flipped u.kind w.kind t))
+    either n (inl x) (inr y) = sym (differ_new p c y.0 j i e h w u v l y.1 x m k (same_flip w.path u.path ∙ s) (kind_flipped u.kind w.kind t))
     either n (inr x) (inr y) = same_set c x.0 y.0 i j (sym x.1 ∙ y.1)
 
 -- Set watches. -----------------------------------------------------------------------------------------
 
 wanted_is : (id c : ℕ) (a : Want) (w : Watch) → watch_wanted id c a ≡ Some w → (w.id ≡ id) × (w.session ≡ c)
-wanted_is id c (Reads q b) w e = let s = some_same (record { id = id; session = c; path = _; kind = _ }) w e in (ap (λ z. z.id) (sym s), ap (λ z. z.session) (sym s))
-wanted_is id c Unfit w e = absurd (none_some w e)
-wanted_is id c (Writes r) w e = absurd (none_some w e)
+wanted_is id c (Reads q b) w e = let s = same_Some (record { id = id; session = c; path = _; kind = _ }) w e in (ap (λ z. z.id) (sym s), ap (λ z. z.session) (sym s))
+wanted_is id c Unfit w e = absurd (none-some w e)
+wanted_is id c (Writes r) w e = absurd (none-some w e)
 
 asked_is : (id c : ℕ) (a : Option Ask) (w : Watch) → watch_asked id c a ≡ Some w → (w.id ≡ id) × (w.session ≡ c)
-asked_is id c None w e = absurd (none_some w e)
+asked_is id c None w e = absurd (none-some w e)
 asked_is id c (Some a) w e = wanted_is id c a.want w e
 
 -- a watch that is set was set before, or is registered now
@@ -170,11 +172,11 @@ set_by_it p id d i j h w None e q = inl q
 set_by_it p id d i j h w (Some x) e q = by_has (has_id x.id (set_watches p h)) q
   where
     new : (x.id == id) ≡ true → x ≡ w → SetSo p id h w (op.WatchSet d i j)
-    new f g = let y = asked_is j d (asked p d i) x e in inr (d, i, ap (λ z. op.WatchSet d i z) (sym y.0 ∙ same_number x.id id f), ap (λ z. z.session) (sym g) ∙ y.1)
+    new f g = let y = asked_is j d (asked p d i) x e in inr (d, i, ap (λ z. op.WatchSet d i z) (sym y.0 ∙ eqb-true x.id id f), ap (λ z. z.session) (sym g) ∙ y.1)
 
     by_new : (b : Bool) → (x.id == id) ≡ b → (if b then Some x else None) ≡ Some w → SetSo p id h w (op.WatchSet d i j)
-    by_new true f g = new f (some_same x w g)
-    by_new false f g = absurd (none_some w g)
+    by_new true f g = new f (same_Some x w g)
+    by_new false f g = absurd (none-some w g)
 
     by_old : (y : Option Watch) → watch_with id (set_watches p h) ≡ y → or_else y (if x.id == id then Some x else None) ≡ Some w → SetSo p id h w (op.WatchSet d i j)
     by_old (Some z) f g = inl (f ∙ g)
@@ -202,14 +204,14 @@ told_fired p c j e h l q =
 holds_change : (p : Plan) (c id : ℕ) (e : Entry) (h : List Entry) (w : Watch) (y : Client Sent) → IsHistory p (e ∷ h) → set_watch p id h ≡ Some w → HoldsSet p c id h w (client_of p c h) → HeldChange p c h e.op y → HoldsSet p c id h w y
 holds_change p c id e h w y l s i (Left n a b) f = subst (λ z. contains id z ≡ true) (sym a) (i (sym b ∙ f))
 holds_change p c id e h w y l s i (Emptied a b) f = absurd (false≢true (sym f ∙ b))
-holds_change p c id e h w y l s i (Dropped j q a b) f = subst (λ z. contains id z ≡ true) (sym a) (without_other id j (client_of p c h).held (i (sym b ∙ f)) (λ k. let z = told_fired p c j e h l q in none_some z.0 (sym (set_unfired p id h w l.0 s) ∙ (ap (λ m. firing_of p m h) k ∙ z.1))))
+holds_change p c id e h w y l s i (Dropped j q a b) f = subst (λ z. contains id z ≡ true) (sym a) (without_other id j (client_of p c h).held (i (sym b ∙ f)) (λ k. let z = told_fired p c j e h l q in none-some z.0 (sym (set_unfired p id h w l.0 s) ∙ (ap (λ m. firing_of p m h) k ∙ z.1))))
 holds_change p c id e h w y l s i (Added m j q a b) f = subst (λ z. contains id z ≡ true) (sym a) (with_old id j (client_of p c h).held (i (sym b ∙ f)))
 
 holds_new : (p : Plan) (c i id : ℕ) (e : Entry) (h : List Entry) → IsHistory p (e ∷ h) → e.op ≡ op.WatchSet c i id → contains id (client_of p c (e ∷ h)).held ≡ true
 holds_new p c i id e h l q = subst (λ x. contains id x.held ≡ true) (sym (own_client p c e h (ap client_in q))) (subst (λ o. contains id (acted_by (sight_of p c h) o (client_of p c h)).held ≡ true) (sym q) (with_new id (client_of p c h).held))
 
 pub set_watches_are_held : SetWatchesAreHeld
-set_watches_are_held p c id [] w l f q s = absurd (none_some w q)
+set_watches_are_held p c id [] w l f q s = absurd (none-some w q)
 set_watches_are_held p c id (e ∷ h) w l f q s = either (λ x. client_after p c e h (HoldsSet p c id h w) (λ k. set_watches_are_held p c id h w l.0 k x s) (λ k. holds_change p c id e h w (acted_by (sight_of p c h) e.op (client_of p c h)) l x (λ m. set_watches_are_held p c id h w l.0 m x s) (held_change p c h e.op k)) f) (set_before p id h w e.op l.0 q)
   where
     either : (set_watch p id h ≡ Some w → contains id (client_of p c (e ∷ h)).held ≡ true) → SetSo p id h w e.op → contains id (client_of p c (e ∷ h)).held ≡ true

@@ -2,6 +2,8 @@
 use Rattle.std.specs.Prelude.{nat_lt, nat_le, nat_eq}
 use Rattle.std.proofs.Common.{◌≡◌, ℕ, zero, suc, ◌<◌, ◌≤◌, ◌++◌, if◌then◌else◌, Bool, true, false, List, [], ◌∷◌, refl, sym, ◌∙◌, ap, subst, arith, Option, Some, None, ◌≢◌}
 use Rattle.std.proofs.lemmas.Bool.Decides.{nat_tests}
+use Rattle.std.proofs.lemmas.Option.{same_Some, none-some}
+use Rattle.std.proofs.lemmas.Bool.{leb-true, leb-false}
 use Rattle.fk_tree.specs.Fill.{after_part, fill_made, fill_parts}
 use Rattle.fk_tree.specs.Touch.{once, parts_touches, set_touches, touches, touches_of, with_parent_touched}
 use Rattle.fk_tree.specs.declared.change.Change.TheVariants as change
@@ -29,12 +31,10 @@ use Rattle.fk_law.specs.Numbered.{numbered, with_some}
 use Rattle.fk_law.specs.Publishing.{all_printed}
 use Rattle.fk_law.proofs.Closes.{commit_fits_at_its_number}
 use Rattle.fk_law.proofs.Leading.{mark_behind_sweep, swept_up_to_the_sweep}
-use Rattle.fk_law.proofs.Numbers.{above, at_most}
 use Rattle.fk_law.proofs.Printing.{txs_are_the_commits}
 use Rattle.fk_law.proofs.Sending.{tx_is, was_committed, committed_is_filled}
 use Rattle.fk_law_watch.specs.SetWatches.{taken_of, first_of}
 use Rattle.fk_law_watch.proofs.SetWatches.{fired_watch_fired_at_its_first_change, set_watch_saw_no_change, or_stays}
-use Rattle.fk_law_client.proofs.Messages.{none_some, some_same}
 use Rattle.fk_law_held.specs.Firings.{FiredByLinesHasFired, FiringStandsInTheLines}
 use Rattle.fk_law_held.specs.Matching.{IsOfHeld}
 use Rattle.fk_law_held.proofs.Announcing.{known_fired}
@@ -80,9 +80,9 @@ firing_more : (p : Plan) (h : List Entry) (w : Holding) (m : ℕ) (g : Fired) �
 firing_more p h w m g x = record { low = (let b = x.low in omega (arith, b)); committed = x.committed; beyond = x.beyond; shows = x.shows }
 
 firing_here : (p : Plan) (h : List Entry) (w : Holding) (m : ℕ) (g : Fired) (b : Bool) (o : Option Change) → is_committed (suc m) h ≡ true → nat_lt w.at (suc m) ≡ b → first_taken w.path w.kind (touches_of_push p (suc m) h) ≡ o → (if b then fired_with (suc m) o else None) ≡ Some g → IsFiring p h w (suc m) g
-firing_here p h w m g false o c e f q = absurd (none_some g q)
-firing_here p h w m g true None c e f q = absurd (none_some g q)
-firing_here p h w m g true (Some x) c e f q = subst (IsFiring p h w (suc m)) (some_same (record { tx = suc m; change = x }) g q) (record { low = omega arith; committed = c; beyond = grind (arith, nat_tests); shows = f })
+firing_here p h w m g false o c e f q = absurd (none-some g q)
+firing_here p h w m g true None c e f q = absurd (none-some g q)
+firing_here p h w m g true (Some x) c e f q = subst (IsFiring p h w (suc m)) (same_Some (record { tx = suc m; change = x }) g q) (record { low = omega arith; committed = c; beyond = grind (arith, nat_tests); shows = f })
 
 found_step : (p : Plan) (h : List Entry) (w : Holding) (m : ℕ) (g : Fired) (x : Option Applied) → IsHistory p h → committed_as p (suc m) h ≡ x → (firing_among w (all_printed (numbered m (committed_of p h))) ≡ Some g → IsFiring p h w m g) → firing_among w (all_printed (with_some x (numbered m (committed_of p h)))) ≡ Some g → IsFiring p h w (suc m) g
 found_step p h w m g None l q i f = firing_more p h w m g (i f)
@@ -93,7 +93,7 @@ found_step p h w m g (Some a) l q i f = by_rest (firing_among w (all_printed (nu
     by_rest None e k = firing_here p h w m g (nat_lt w.at (suc m)) (first_taken w.path w.kind (touches_of_push p (suc m) h)) (was_committed p (suc m) h a q) refl refl (sym (line_fires p m h a w l q) ∙ k)
 
 found : (p : Plan) (h : List Entry) (w : Holding) (m : ℕ) (g : Fired) → IsHistory p h → firing_among w (all_printed (numbered m (committed_of p h))) ≡ Some g → IsFiring p h w m g
-found p h w zero g l f = absurd (none_some g f)
+found p h w zero g l f = absurd (none-some g f)
 found p h w (suc m) g l f = found_step p h w m g (committed_as p (suc m) h) l refl (found p h w m g l) f
 
 -- the watch of a holding that fired by the lines has fired there or below
@@ -109,19 +109,19 @@ fired_low p h held w g x l y = by_firing (firing_of p x.id h) refl
     by_firing : (o : Option Firing) → firing_of p x.id h ≡ o → (f : Firing) × (firing_of p x.id h ≡ Some f) × (f.tx ≤ g.tx)
     by_firing None e =
         let s = set_watch_saw_no_change p x.id h x.watch l (unfired_set p x.id h x.watch x.known e) in
-        let n = some_same s.first w.at (sym s.registered ∙ x.first) in
+        let n = same_Some s.first w.at (sym s.registered ∙ x.first) in
         let b = y.beyond in
-        absurd (none_some g.change (sym (s.none_since g.tx swept (omega (arith, n, b))) ∙ taken))
+        absurd (none-some g.change (sym (s.none_since g.tx swept (omega (arith, n, b))) ∙ taken))
     by_firing (Some f) e = (f, e, by_order (nat_le f.tx g.tx) refl)
       where
         by_order : (c : Bool) → nat_le f.tx g.tx ≡ c → f.tx ≤ g.tx
-        by_order true k = at_most f.tx g.tx k
+        by_order true k = leb-true f.tx g.tx k
         by_order false k =
             let s = fired_watch_fired_at_its_first_change p x.id h f l e in
-            let n = some_same s.first w.at (sym s.registered ∙ x.first) in
+            let n = same_Some s.first w.at (sym s.registered ∙ x.first) in
             let b = y.beyond in
             let z : f.watch ≡ x.watch = known_fired p x.id h x.watch f l x.known e in
-            absurd (none_some g.change (sym (s.none_before g.tx swept (omega (arith, n, b)) (above f.tx g.tx k)) ∙ (ap (λ v. taken_of p v g.tx h) z ∙ taken)))
+            absurd (none-some g.change (sym (s.none_before g.tx swept (omega (arith, n, b)) (leb-false f.tx g.tx k)) ∙ (ap (λ v. taken_of p v g.tx h) z ∙ taken)))
 
 pub fired_by_lines_has_fired : FiredByLinesHasFired
 fired_by_lines_has_fired p c h w g v l i q =
@@ -145,7 +145,7 @@ no_line p id n m h f a l e g b q k = line_fires p m h a (held_as f n) l q ∙ by
     by_number false x = refl
     by_number true x =
         let s = fired_watch_fired_at_its_first_change p id h f l e in
-        let i = some_same s.first n (sym s.registered ∙ g) in
+        let i = same_Some s.first n (sym s.registered ∙ g) in
         let d : n < suc m = grind (arith, nat_tests) in
         ap (fired_with (suc m)) (s.none_before (suc m) (committed_swept p (suc m) h l (was_committed p (suc m) h a q) (omega (arith, b, k))) (omega (arith, i, d)) k)
 
@@ -162,7 +162,7 @@ stays_step w None done g i = i
 stays_step w (Some a) done g i = or_stays (firing_among w (all_printed done)) (fired_in w (printed_of a)) g i
 
 its_line : (p : Plan) (id n m : ℕ) (h : List Entry) (f : Firing) (x : Option Applied) → HasFittingVerbs p → IsHistory p h → firing_of p id h ≡ Some f → first_of p id h ≡ Some n → f.tx ≤ mark_of h → f.tx ≡ suc m → committed_as p (suc m) h ≡ x → (a : Applied) → x ≡ Some a → firing_among (held_as f n) (all_printed (with_some x (numbered m (committed_of p h)))) ≡ Some (record { tx = f.tx; change = f.change })
-its_line p id n m h f None v l e g b s q a r = absurd (none_some a r)
+its_line p id n m h f None v l e g b s q a r = absurd (none-some a r)
 its_line p id n m h f (Some y) v l e g b s q a r =
     ap (λ o. or_else o (fired_in (held_as f n) (printed_of y))) (none_below p id n m h f l e g b (omega (arith, s)))
     ∙ (line_fires p m h y (held_as f n) l q

@@ -1,7 +1,8 @@
 -- What a client holds by its lines follows what it holds.
 use Rattle.std.specs.Prelude.{◌==◌}
 use Rattle.std.proofs.Common.{◌≡◌, ℕ, if◌then◌else◌, Bool, true, false, List, [], ◌∷◌, refl, sym, ◌∙◌, ap, subst, Option, Some, None}
-use Rattle.std.proofs.lemmas.Bool.{false≢true}
+use Rattle.std.proofs.lemmas.Bool.{false≢true, eqb-true}
+use Rattle.std.proofs.lemmas.Option.{same_Some, none-some}
 use Rattle.fk_base.specs.declared.code.Code.TheVariants as code
 use Rattle.fk_base.specs.Path.{same_path}
 use Rattle.fk_tree.specs.Watch.{same_kind}
@@ -20,12 +21,12 @@ use Rattle.fk_spec.specs.Holding.{Holding, held_by, not_held}
 use Rattle.fk_spec.specs.PublicLines.{lines_of}
 use Rattle.fk_spec.specs.Next.{IsHistory}
 use Rattle.fk_law.proofs.Numbers.{itself}
+use Rattle.fk_law.proofs.Printing.{lines_are}
 use Rattle.fk_law_watch.proofs.Reading.{next_is}
 use Rattle.fk_law_client.specs.Lines.{IsAmong, kept_after}
 use Rattle.fk_law_client.specs.Operations.{OperationSays}
 use Rattle.fk_law_client.proofs.Kept.{client_after, own_client}
-use Rattle.fk_law_client.proofs.Lines.{client_lines_are, lines_are, other_lines_are}
-use Rattle.fk_law_client.proofs.Messages.{none_some, same_number, some_same}
+use Rattle.fk_law_client.proofs.Lines.{client_lines_are, other_lines_are}
 use Rattle.fk_law_client.proofs.Operating.{client_operations_say}
 use Rattle.fk_law_reply.specs.Plans.{HasFittingVerbs}
 use Rattle.fk_law_held.specs.Held.{known_watch}
@@ -59,7 +60,7 @@ told_matches p c j e h ws true v l q f m = subst (λ o. Matches p (e ∷ h) (wit
     differ : (i : ℕ) (w : Watch) → contains i (client_of p c h).held ≡ true → known_watch p i (e ∷ h) ≡ Some w → same_path x.0.watch.path w.path ≡ true → same_kind x.0.watch.kind w.kind ≡ true → i ≡ j
     differ i w g k s t =
         let y = held_watches_are_accounted_for p c i h l.0 g in
-        let z = some_same w y.watch (sym k ∙ known_stays p i e h y.watch l y.known) in
+        let z = same_Some w y.watch (sym k ∙ known_stays p i e h y.watch l y.known) in
         sym (held_watches_differ p c j i h x.0.watch w v.reads l.0 f g known (y.known ∙ ap Some (sym z)) s t)
 
     dropped : Matches p (e ∷ h) (without j (client_of p c h).held) (not_held x.0.watch.path x.0.watch.kind ws)
@@ -70,9 +71,9 @@ failed_matches p c i k held ws m = rw (itself c) (subst (Matches p k held) (sym 
 
 own_matches : (p : Plan) (c : ℕ) (e : Entry) (h : List Entry) (o : Op) (ws : List Holding) → HasFittingVerbs p → IsHistory p (e ∷ h) → e.op ≡ o → client_in o ≡ Some c → OperationSays p c h o → Matches p (e ∷ h) (client_of p c h).held ws → Matches p (e ∷ h) (acted_by (sight_of p c h) o (client_of p c h)).held (held_onto p c (own_lines (wording p c h) (sight_of p c h) (client_of p c h) o) ws)
 own_matches p c e h (op.TakeEvicted d k t) ws v l q f a m = evicted_matches p c t e h ws (client_of p c h).closed l refl m
-own_matches p c e h (op.TakeWatch d j) ws v l q f a m = told_matches p c j e h ws (contains j (client_of p c h).held) v l (q ∙ ap (λ z. op.TakeWatch z j) (some_same d c f)) refl m
+own_matches p c e h (op.TakeWatch d j) ws v l q f a m = told_matches p c j e h ws (contains j (client_of p c h).held) v l (q ∙ ap (λ z. op.TakeWatch z j) (same_Some d c f)) refl m
 own_matches p c e h (op.LookOk d i k) ws v l q f a m = look_matches p c i a.0.number (e ∷ h) h (client_of p c h).reading ws v l.0 refl a.0.target m
-own_matches p c e h (op.WatchSet d i id) ws v l q f a m = set_matches p c i id e h ws v l (q ∙ ap (λ z. op.WatchSet z i id) (some_same d c f)) m
+own_matches p c e h (op.WatchSet d i id) ws v l q f a m = set_matches p c i id e h ws v l (q ∙ ap (λ z. op.WatchSet z i id) (same_Some d c f)) m
 own_matches p c e h (op.ReadFault d i) ws v l q f a m = failed_matches p c i (e ∷ h) (client_of p c h).held ws m
 own_matches p c e h (op.WatchFault d i) ws v l q f a m = failed_matches p c i (e ∷ h) (client_of p c h).held ws m
 own_matches p c e h (op.TakeRefused d k) ws v l q f a m = subst (λ z. Matches p (e ∷ h) z ws) (sym (kept_held k (kept_outcome (sight_of p c h).head) (client_of p c h))) m
@@ -117,12 +118,12 @@ matches_step : (p : Plan) (c : ℕ) (e : Entry) (h : List Entry) → HasFittingV
 matches_step p c e h v l m = by_client (client_in e.op) refl
   where
     by_client : (o : Option ℕ) → client_in e.op ≡ o → Matches p (e ∷ h) (client_of p c (e ∷ h)).held (held_by p c (lines_of (e ∷ h)))
-    by_client None q = other_step p c e h (λ k. none_some c (sym q ∙ k)) (tx_lines_leave p c h e.op e.lines (lines_of h) (held_by p c (lines_of h)) (other_lines_are p e h l q)) m
+    by_client None q = other_step p c e h (λ k. none-some c (sym q ∙ k)) (tx_lines_leave p c h e.op e.lines (lines_of h) (held_by p c (lines_of h)) (other_lines_are p e h l q)) m
     by_client (Some s) q = by_self (s == c) refl
       where
         by_self : (b : Bool) → (s == c) ≡ b → Matches p (e ∷ h) (client_of p c (e ∷ h)).held (held_by p c (lines_of (e ∷ h)))
-        by_self true g = own_step p c e h v l (q ∙ ap Some (same_number s c g)) m
-        by_self false g = other_step p c e h (λ k. false≢true (sym g ∙ subst (λ z. (z == c) ≡ true) (some_same c s (sym k ∙ q)) (itself c))) (other_lines p c s h e.op e.lines (lines_of h) (held_by p c (lines_of h)) g (client_lines_are p s e h v.reads l q)) m
+        by_self true g = own_step p c e h v l (q ∙ ap Some (eqb-true s c g)) m
+        by_self false g = other_step p c e h (λ k. false≢true (sym g ∙ subst (λ z. (z == c) ≡ true) (same_Some c s (sym k ∙ q)) (itself c))) (other_lines p c s h e.op e.lines (lines_of h) (held_by p c (lines_of h)) g (client_lines_are p s e h v.reads l q)) m
 
 pub held_by_lines_is_held : HeldByLinesIsHeld
 held_by_lines_is_held p c [] v l = matches_none p []

@@ -1,8 +1,9 @@
 -- The watches that a client holds are set or have fired, and are its own.
 use Rattle.std.specs.Prelude.{◌==◌, ◌&&◌, is_some}
 use Rattle.std.proofs.Common.{◌≡◌, ℕ, ◌+◌, ◌++◌, ◌⊎◌, inl, inr, if◌then◌else◌, Bool, true, false, List, [], ◌∷◌, refl, sym, ◌∙◌, ap, subst, arith, Option, Some, None}
-use Rattle.std.proofs.lemmas.Bool.{false≢true, cond_both}
+use Rattle.std.proofs.lemmas.Bool.{false≢true, cond_both, eqb-true}
 use Rattle.std.proofs.lemmas.Bool.Decides.{nat_tests}
+use Rattle.std.proofs.lemmas.Option.{same_Some, none-some}
 use Rattle.fk_base.specs.Path.{PathNames, same_path}
 use Rattle.fk_tree.specs.Watch.{first_taken, same_kind}
 use Rattle.fk_tree.specs.declared.change.Change.{Change}
@@ -18,15 +19,15 @@ use Rattle.fk_spec.specs.Sight.{number_or_next, sight_of}
 use Rattle.fk_spec.specs.Watches.{Firing, Watch, firing_in, firing_of, firing_with, firings, given_of, has_id, not_fired, set_after, set_number, set_watches, touches_of_push, watch_asked, with_watch}
 use Rattle.fk_spec.specs.Client.{acted_by, by_result, client_of, close_if, contains, is_close, kept_outcome, looked, looked_at, looked_for, registers, settle_with, settled_as, without, Client, Reading, Sent}
 use Rattle.fk_spec.specs.Next.{IsHistory}
+use Rattle.fk_spec.specs.WatchNumbers.{watch_with}
 use Rattle.fk_law.proofs.Numbers.{itself}
 use Rattle.fk_law_watch.specs.Registering.{IsRegistration, Registers, number_of_read}
-use Rattle.fk_law_watch.specs.SetWatches.{IsOneOfTwo, first_of, registered_in, set_watch, watch_with}
+use Rattle.fk_law_watch.specs.SetWatches.{IsOneOfTwo, first_of, registered_in, set_watch}
 use Rattle.fk_law_watch.proofs.Listing.{AreUnique, append_with, fired_one, fires_watch, has_is, set_number_has, stays_set}
 use Rattle.fk_law_watch.proofs.Registering.{watches_are_registered}
 use Rattle.fk_law_watch.proofs.SetWatches.{firing_never_changes, or_stays, set_or_fired_were_given, watch_is_set_or_fired, watches_unique}
 use Rattle.fk_law_client.specs.Operations.{OperationSays}
 use Rattle.fk_law_client.proofs.Kept.{client_after}
-use Rattle.fk_law_client.proofs.Messages.{none_some, same_number, some_same}
 use Rattle.fk_law_client.proofs.Operating.{client_operations_say}
 use Rattle.fk_law_held.specs.Held.{HeldChange, Left, Emptied, Dropped, Added, IsAccountedFor, HeldWatchesAreAccountedFor, ClosedClientsHoldNothing, fired_watch, known_watch}
 use Rattle.fk_law_held.proofs.Changing.{held_change, with_has, without_has}
@@ -69,8 +70,8 @@ known_is_one : (p : Plan) (id : ℕ) (h : List Entry) (w : Watch) → known_watc
 known_is_one p id h w e = by_set (set_watch p id h) refl e
   where
     by_fired : (f : Option Firing) → firing_of p id h ≡ f → fired_watch f ≡ Some w → IsOne p id h w
-    by_fired None g k = absurd (none_some w k)
-    by_fired (Some f) g k = inr (f, g, some_same f.watch w k)
+    by_fired None g k = absurd (none-some w k)
+    by_fired (Some f) g k = inr (f, g, same_Some f.watch w k)
 
     by_set : (o : Option Watch) → set_watch p id h ≡ o → or_else o (fired_watch (firing_of p id h)) ≡ Some w → IsOne p id h w
     by_set (Some x) g k = inl (g ∙ k)
@@ -93,7 +94,7 @@ IsOf c path k w = (w.session ≡ c) × (same_path w.path path ≡ true) × (same
 
 -- the watch of a set number is of that client, path and kind
 set_number_is : (c j : ℕ) (path : PathNames) (k : Kind) (ws : List Watch) → AreUnique ws → set_number c path k ws ≡ Some j → (v : Watch) × (watch_with j ws ≡ Some v) × IsOf c path k v
-set_number_is c j path k [] u e = absurd (none_some j e)
+set_number_is c j path k [] u e = absurd (none-some j e)
 set_number_is c j path k (w ∷ ws) u e = by_test ((w.session == c) && same_path w.path path && same_kind w.kind k) refl e (λ f. set_number_is c j path k ws u.1 f)
   where
     parts : ((w.session == c) && same_path w.path path && same_kind w.kind k) ≡ true → IsOf c path k w
@@ -106,11 +107,11 @@ set_number_is c j path k (w ∷ ws) u e = by_test ((w.session == c) && same_path
     other f = by_eq (w.id == j) refl
       where
         by_eq : (b : Bool) → (w.id == j) ≡ b → b ≡ false
-        by_eq true g = absurd (false≢true (sym u.0 ∙ subst (λ z. has_id z ws ≡ true) (sym (same_number w.id j g)) f))
+        by_eq true g = absurd (false≢true (sym u.0 ∙ subst (λ z. has_id z ws ≡ true) (sym (eqb-true w.id j g)) f))
         by_eq false g = refl
 
     by_test : (b : Bool) → ((w.session == c) && same_path w.path path && same_kind w.kind k) ≡ b → (if b then Some w.id else set_number c path k ws) ≡ Some j → (set_number c path k ws ≡ Some j → (v : Watch) × (watch_with j ws ≡ Some v) × IsOf c path k v) → (v : Watch) × (watch_with j (w ∷ ws) ≡ Some v) × IsOf c path k v
-    by_test true f g i = (w, first (some_same w.id j g), parts f)
+    by_test true f g i = (w, first (same_Some w.id j g), parts f)
     by_test false f g i = let y = i g in (y.0, rw (other (set_number_has c path k ws j g)) y.1, y.2)
 
 -- a watch that is registered is set, and is of its client, its path and its kind
@@ -119,7 +120,7 @@ pub record IsRegistered (p : Plan) (c id : ℕ) (path : PathNames) (k : Kind) (h
   pub set_now : set_watch p id h ≡ Some watch
   pub of_it : IsOf c path k watch
 
-kind_itself : (k : Kind) → same_kind k k ≡ true
+pub kind_itself : (k : Kind) → same_kind k k ≡ true
 kind_itself k = grind arith
 
 has_none : (id : ℕ) (ws : List Watch) → has_id id ws ≡ false → watch_with id ws ≡ None
@@ -181,7 +182,7 @@ held_nothing : (p : Plan) (c : ℕ) (h : List Entry) (o : Op) (y : Client Sent) 
 held_nothing p c h o y s i k (Left n a b) f = a ∙ i (sym b ∙ f)
 held_nothing p c h o y s i k (Emptied a b) f = a
 held_nothing p c h o y s i k (Dropped j q a b) f = a ∙ ap (without j) (i (sym b ∙ f))
-held_nothing p c h o y s i k (Added m j q a b) f = let w = (subst (OperationSays p c h) q s).0 in absurd (none_some w.reading (sym (k (sym b ∙ f)) ∙ w.made))
+held_nothing p c h o y s i k (Added m j q a b) f = let w = (subst (OperationSays p c h) q s).0 in absurd (none-some w.reading (sym (k (sym b ∙ f)) ∙ w.made))
 
 settled_reading : (n : ℕ) (o : Option Outcome) (x : Client Sent) → (settle_with by_result n (settled_as o) x).reading ≡ None
 settled_reading n None x = refl
@@ -200,7 +201,7 @@ look_reading p c h None e k f = first (client_of p c h).sent
 look_reading p c h (Some r) e k f = registering (registers (asked p c ((client_of p c h).begun + 1)) r.node) f
   where
     registering : (b : Bool) → (looked_at b r (client_of p c h)).closed ≡ true → (looked_at b r (client_of p c h)).reading ≡ None
-    registering true g = absurd (none_some r (sym (k g) ∙ e))
+    registering true g = absurd (none-some r (sym (k g) ∙ e))
     registering false g = refl
 
 reads_nothing : (p : Plan) (c : ℕ) (h : List Entry) (o : Op) → OperationSays p c h o → ((client_of p c h).closed ≡ true → (client_of p c h).reading ≡ None) → (acted_by (sight_of p c h) o (client_of p c h)).closed ≡ true → (acted_by (sight_of p c h) o (client_of p c h)).reading ≡ None

@@ -1,7 +1,8 @@
 -- What a client holds by its lines after each entry.
 use Rattle.std.specs.Prelude.{◌==◌, ◌&&◌}
 use Rattle.std.proofs.Common.{◌≡◌, ℕ, ◌+◌, ◌≤◌, ◌++◌, ◌⊎◌, inl, inr, if◌then◌else◌, Bool, true, false, List, [], ◌∷◌, refl, sym, ◌∙◌, ap, subst, arith, Option, Some, None}
-use Rattle.std.proofs.lemmas.Bool.{false≢true, cond_both}
+use Rattle.std.proofs.lemmas.Bool.{false≢true, cond_both, eqb-true}
+use Rattle.std.proofs.lemmas.Option.{same_Some, none-some}
 use Rattle.fk_base.specs.declared.code.Code.{Code}
 use Rattle.fk_base.specs.declared.code.Code.TheVariants as code
 use Rattle.fk_tree.specs.Apply.{reply_of}
@@ -15,7 +16,6 @@ use Rattle.fk_tree.specs.declared.applied.Applied.{Applied}
 use Rattle.fk_tree.specs.declared.node.Node.{Node}
 use Rattle.fk_tree.specs.declared.request.Query.{Query}
 use Rattle.fk_tree.specs.declared.request.Query.TheVariants as query
-use Rattle.fk_tree.specs.declared.request.Request.{Request}
 use Rattle.fk_tree.specs.declared.request.Request.TheVariants as request
 use Rattle.fk_tree.proofs.Order.{same_path_is}
 use Rattle.fk_print.specs.declared.entry.Entry.{Entry}
@@ -46,7 +46,6 @@ use Rattle.fk_law_client.specs.Kept.{WasTold, KeptFrom, Before, Told, Begun, beg
 use Rattle.fk_law_client.specs.Lines.{EachAfter, IsAmong, IsPublication, LineIsAfter, kept_after}
 use Rattle.fk_law_client.specs.Operations.{OperationSays}
 use Rattle.fk_law_client.proofs.Kept.{among_unready, client_after, kept_commands_have_their_source, own_client}
-use Rattle.fk_law_client.proofs.Messages.{none_some, same_number, some_same}
 use Rattle.fk_law_client.proofs.Operating.{client_operations_say}
 use Rattle.fk_law_reply.specs.Plans.{HasFittingVerbs}
 use Rattle.fk_law_held.specs.Held.{HeldChange, Left, Emptied, Dropped, Added, fired_watch, known_watch}
@@ -60,7 +59,7 @@ use Rattle.fk_law_client.specs.Tracking.{IsTrueResult}
 use Rattle.fk_law_client.proofs.Tracking.{sent_tracked}
 use Rattle.fk_law_reply.specs.Ledger.{IsEntered, IsMessage}
 use Rattle.fk_law_reply.proofs.Ledger.{its_message, kept_commands_are_entered, tracked_among}
-use Rattle.fk_law_reply.proofs.ClosedClients.{applied_is, first_sought}
+use Rattle.fk_law_reply.proofs.ClosedClients.{applied_is, first_sought, at_closed, writes_same}
 use Rattle.fk_law_reply.proofs.RefusedOutcomes.{refused_holds_at_its_number}
 use Rattle.fk_law.proofs.Sending.{committed_is_filled}
 use Rattle.fk_law.proofs.Settled.{reached}
@@ -174,23 +173,23 @@ local_closed p c i seen at h true e f = absurd (grind arith)
 local_closed p c i seen at h false e f = e
 
 begun_closed : (p : Plan) (c at : ℕ) (h : List Entry) (o : Op) (s : Sent) → OperationSays p c h o → begun_by p c (seen_by c h) o ≡ Some s → s.result ≡ Expired at → (client_of p c h).closed ≡ true
-begun_closed p c at h (op.Send d i k) s a g f = absurd (no_open (ap (λ z. z.result) (some_same (record { command = i; k = k; result = Open }) s g) ∙ f))
+begun_closed p c at h (op.Send d i k) s a g f = absurd (no_open (ap (λ z. z.result) (same_Some (record { command = i; k = k; result = Open }) s g) ∙ f))
   where
     no_open : Open ≡ Expired at → ⊥
     no_open e = grind arith
-begun_closed p c at h (op.SendFault d i) s a g f = absurd (no_plain (ap (λ z. z.result) (some_same (record { command = i; k = 0; result = Plain code.ConnectionLoss }) s g) ∙ f))
+begun_closed p c at h (op.SendFault d i) s a g f = absurd (no_plain (ap (λ z. z.result) (same_Some (record { command = i; k = 0; result = Plain code.ConnectionLoss }) s g) ∙ f))
   where
     no_plain : Plain code.ConnectionLoss ≡ Expired at → ⊥
     no_plain e = grind arith
 begun_closed p c at h (op.Local d i) s a g f = either a.1
   where
     fit : is_unfit (asked p c i) ≡ false
-    fit = local_closed p c i (seen_by c h) at h (is_unfit (asked p c i)) refl (ap (λ z. z.result) (some_same (record { command = i; k = 0; result = local_result (is_unfit (asked p c i)) (seen_by c h) }) s g) ∙ f)
+    fit = local_closed p c i (seen_by c h) at h (is_unfit (asked p c i)) refl (ap (λ z. z.result) (same_Some (record { command = i; k = 0; result = local_result (is_unfit (asked p c i)) (seen_by c h) }) s g) ∙ f)
 
     either : (a.0.ask.want ≡ Unfit) ⊎ ((client_of p c h).closed ≡ true) → (client_of p c h).closed ≡ true
     either (inl w) = absurd (false≢true (sym fit ∙ (ap is_unfit a.0.is_asked ∙ ap is_unfit_want w)))
     either (inr w) = w
-begun_closed p c at h o s a g f = absurd (none_some s g)
+begun_closed p c at h o s a g f = absurd (none-some s g)
 
 told_result : (p : Plan) (c at : ℕ) (h : List Entry) (s : Sent) → WasTold p c h s → s.result ≡ Expired at → ⊥
 told_result p c at h s t f = clash (sym (ap (λ z. z.result) t.told) ∙ f)
@@ -216,10 +215,6 @@ expired_closed p c (e ∷ h) l s at a f =
     (λ q x n b k. acted_closed p c e h l q (expired_closed p c h l.0) x n (among_unready x (kept_after p c h e.op) b) k) s at a f
 
 -- What an operation prints first. ----------------------------------------------------------------------
-
--- an answer that sets no watch
-abbrev expired_refusal : Refusal
-expired_refusal = record { code = code.SessionExpired; place = 0 }
 
 answer_want : (w : Want) (n : ℕ) (found : Option Node) (ws : List Holding) → sets_watch w found ≡ false → held_with w (shown_read n found w) ws ≡ ws
 answer_want Unfit n found ws e = refl
@@ -252,12 +247,12 @@ sets_number (query.Ls p) true n None ws e = absurd (false≢true e)
 
 -- a first command whose number is looked for was sent
 sought_sent : (p : Plan) (c n k : ℕ) (h : List Entry) (r : Result) → IsHistory p h → IsTrueResult p c k h r → number_looked_for r ≡ Some n → 1 ≤ k
-sought_sent p c n k h Open l t q = absurd (none_some n q)
+sought_sent p c n k h Open l t q = absurd (none-some n q)
 sought_sent p c n k h (Settled (Committed u)) l t q = (reached p t.function c k h l t.is_of.task).0
 sought_sent p c n k h (Settled (Refused cd place at)) l t q = (outcome_is_of_a_settled p c k h (Refused cd place at) l t).0
-sought_sent p c n k h (Settled (Passed loss)) l t q = absurd (none_some n q)
-sought_sent p c n k h (Plain cd) l t q = absurd (none_some n q)
-sought_sent p c n k h (Expired at) l t q = absurd (none_some n q)
+sought_sent p c n k h (Settled (Passed loss)) l t q = absurd (none-some n q)
+sought_sent p c n k h (Plain cd) l t q = absurd (none-some n q)
+sought_sent p c n k h (Expired at) l t q = absurd (none-some n q)
 
 close_reply : (a : Applied) → a.request ≡ request.Close false → ends_session (shown_reply a.tx (reply_of a)) ≡ true
 close_reply a e = subst (λ z. ends_session (shown_reply a.tx (reply_of (record a { request = z }))) ≡ true) (sym e) refl
@@ -267,25 +262,22 @@ refused_code : (v : View) (c place : ℕ) (cd : Code) → check v c (request.Clo
 refused_code v c place cd e = by_flag (v.closed c) e
   where
     same : (x y : Refusal) → Some x ≡ Some y → y.code ≡ x.code
-    same x y f = ap (λ z. z.code) (sym (some_same x y f))
+    same x y f = ap (λ z. z.code) (sym (same_Some x y f))
 
-    by_flag : (b : Bool) → (if b then Some expired_refusal else check_open v c (request.Close false)) ≡ Some (record { code = cd; place = place }) → cd ≡ code.SessionExpired
-    by_flag true f = same expired_refusal (record { code = cd; place = place }) f
-    by_flag false f = absurd (none_some (record { code = cd; place = place }) f)
+    by_flag : (b : Bool) → (if b then Some at_closed else check_open v c (request.Close false)) ≡ Some (record { code = cd; place = place }) → cd ≡ code.SessionExpired
+    by_flag true f = same at_closed (record { code = cd; place = place }) f
+    by_flag false f = absurd (none-some (record { code = cd; place = place }) f)
 
 close_ends : (p : Plan) (c n k : ℕ) (h : List Entry) (r : Result) → HasFittingVerbs p → IsHistory p h → IsTrueResult p c k h r → number_looked_for r ≡ Some n → request_of p c k h ≡ Some (request.Close false) → ends_session (shown_result p h r) ≡ true
-close_ends p c n k h Open v l t q f = absurd (none_some n q)
+close_ends p c n k h Open v l t q f = absurd (none-some n q)
 close_ends p c n k h (Settled (Committed u)) v l t q f =
     let a = committed_is_filled p u h l t.committed in
     let y = applied_is p u t.function c k h a.0 (request.Close false) l t.is_of a.1 f in
     subst (λ o. ends_session (shown_applied u o) ≡ true) (sym a.1) (subst (λ z. ends_session (shown_reply z (reply_of a.0)) ≡ true) a.2 (close_reply a.0 y.2))
 close_ends p c n k h (Settled (Refused cd place at)) v l t q f = subst (λ z. ends_session (shown.Refused z at place) ≡ true) (sym (refused_code (view_after (up_to at (committed_of p h))) c place cd (refused_holds_at_its_number p c k place at cd h (request.Close false) v.reads l t f))) refl
-close_ends p c n k h (Settled (Passed loss)) v l t q f = absurd (none_some n q)
-close_ends p c n k h (Plain cd) v l t q f = absurd (none_some n q)
-close_ends p c n k h (Expired at) v l t q f = absurd (none_some n q)
-
-writes_same : (r s : Request) → Writes r ≡ Writes s → r ≡ s
-writes_same r s e = cc
+close_ends p c n k h (Settled (Passed loss)) v l t q f = absurd (none-some n q)
+close_ends p c n k h (Plain cd) v l t q f = absurd (none-some n q)
+close_ends p c n k h (Expired at) v l t q f = absurd (none-some n q)
 
 empties : (b : Bool) (ws : List Holding) → b ≡ true → (if true && b then [] else ws) ≡ []
 empties true ws e = refl
@@ -348,15 +340,15 @@ look_matches p c i n k h (Some r) ws v l e q m = registering (registers (asked p
 
 -- a number that was registered is known
 first_known : (p : Plan) (id n : ℕ) (h : List Entry) → IsHistory p h → first_of p id h ≡ Some n → (w : Watch) × (known_watch p id h ≡ Some w)
-first_known p id n [] l q = absurd (none_some n q)
+first_known p id n [] l q = absurd (none-some n q)
 first_known p id n (e ∷ h) l q = by_old (first_of p id h) refl q (λ b f. first_known p id b h l.0 f)
   where
     new : (o : Op) → e.op ≡ o → registered_in p id h o ≡ Some n → (w : Watch) × (known_watch p id (e ∷ h) ≡ Some w)
     new (op.WatchSet d i j) f g = by_number (j == id) refl g
       where
         by_number : (b : Bool) → (j == id) ≡ b → when b (number_of_read p d h) ≡ Some n → (w : Watch) × (known_watch p id (e ∷ h) ≡ Some w)
-        by_number true x y = let z = accounted_now p d i id e h l (f ∙ ap (λ m. op.WatchSet d i m) (same_number j id x)) in (z.watch, z.known)
-        by_number false x y = absurd (none_some n y)
+        by_number true x y = let z = accounted_now p d i id e h l (f ∙ ap (λ m. op.WatchSet d i m) (eqb-true j id x)) in (z.watch, z.known)
+        by_number false x y = absurd (none-some n y)
     new o f g = absurd (grind arith)
 
     by_old : (o : Option ℕ) → first_of p id h ≡ o → or_else o (registered_in p id h e.op) ≡ Some n → ((b : ℕ) → first_of p id h ≡ Some b → (w : Watch) × (known_watch p id h ≡ Some w)) → (w : Watch) × (known_watch p id (e ∷ h) ≡ Some w)
@@ -387,7 +379,7 @@ set_matches p c i id e h ws v l q m = subst (λ z. Matches p (e ∷ h) (with_hel
     r = registration p c i id e h l q
 
     wanted : r.watch ≡ record { id = id; session = c; path = path_asked a.0.query; kind = kind_asked a.0.query }
-    wanted = some_same r.watch (record { id = id; session = c; path = path_asked a.0.query; kind = kind_asked a.0.query }) (sym r.wanted ∙ (ap (watch_asked id c) a.0.is_asked ∙ ap (watch_wanted id c) a.0.reads))
+    wanted = same_Some r.watch (record { id = id; session = c; path = path_asked a.0.query; kind = kind_asked a.0.query }) (sym r.wanted ∙ (ap (watch_asked id c) a.0.is_asked ∙ ap (watch_wanted id c) a.0.reads))
 
     x : IsRegistered p c id r.watch.path r.watch.kind (e ∷ h)
     x = registered_now p c i id e h l q r
@@ -405,7 +397,7 @@ set_matches p c i id e h ws v l q m = subst (λ z. Matches p (e ∷ h) (with_hel
     open_session = by_closed (client_of p c h).closed refl
       where
         by_closed : (b : Bool) → (client_of p c h).closed ≡ b → (client_of p c h).closed ≡ false
-        by_closed true f = absurd (none_some a.0.reading (sym (closed_clients_hold_nothing p c h l.0 f).1 ∙ a.0.made))
+        by_closed true f = absurd (none-some a.0.reading (sym (closed_clients_hold_nothing p c h l.0 f).1 ∙ a.0.made))
         by_closed false f = f
 
     unregistered : contains id (client_of p c h).held ≡ false → first_of p id h ≡ None
@@ -416,7 +408,7 @@ set_matches p c i id e h ws v l q m = subst (λ z. Matches p (e ∷ h) (with_hel
         by_first (Some b) g =
             let y = first_known p id b h l.0 g in
             let u = unfired_set p id h y.0 y.1 (registered_unfired p c i id e h l q) in
-            let s = some_same y.0 x.watch (sym (known_stays p id e h y.0 l y.1) ∙ known) in
+            let s = same_Some y.0 x.watch (sym (known_stays p id e h y.0 l y.1) ∙ known) in
             absurd (false≢true (sym f ∙ set_watches_are_held p c id h y.0 l.0 open_session u (ap (λ w. w.session) s ∙ x.of_it.0)))
 
     first_number : contains id (client_of p c h).held ≡ false → first_of p id (e ∷ h) ≡ Some n

@@ -1,7 +1,8 @@
 -- The watches that a client holds by its lines are those that it holds.
 use Rattle.std.specs.Prelude.{◌&&◌}
 use Rattle.std.proofs.Common.{◌≡◌, ℕ, ◌⊎◌, inl, inr, if◌then◌else◌, Bool, true, false, List, [], ◌∷◌, refl, sym, ◌∙◌, ap, subst, arith, Option, Some, None}
-use Rattle.std.proofs.lemmas.Bool.{false≢true}
+use Rattle.std.proofs.lemmas.Bool.{false≢true, and_parts}
+use Rattle.std.proofs.lemmas.Option.{same_Some, none-some}
 use Rattle.fk_base.specs.Path.{PathNames, same_path}
 use Rattle.fk_tree.specs.Watch.{same_kind}
 use Rattle.fk_tree.specs.declared.change.Kind.{Kind}
@@ -15,34 +16,26 @@ use Rattle.fk_spec.specs.Watches.{Watch}
 use Rattle.fk_spec.specs.Next.{IsHistory}
 use Rattle.fk_law_watch.specs.SetWatches.{first_of, registered_in}
 use Rattle.fk_law_watch.proofs.SetWatches.{or_stays}
-use Rattle.fk_law_client.proofs.Messages.{none_some, some_same}
 use Rattle.fk_law_held.specs.Held.{IsAccountedFor, known_watch}
 use Rattle.fk_law_held.specs.Matching.{IsIn, IsOfHeld, Matches}
 use Rattle.fk_law_held.proofs.Changing.{without_has, without_other}
-use Rattle.fk_law_held.proofs.Holding.{known_stays}
+use Rattle.fk_law_held.proofs.Holding.{known_stays, kind_itself}
 
 -- Holdings. --------------------------------------------------------------------------------------------
 
 pub kind_is : (a b : Kind) → same_kind a b ≡ true → a ≡ b
 kind_is a b e = grind arith
 
-kind_self : (k : Kind) → same_kind k k ≡ true
-kind_self k = grind arith
-
-both : (a b : Bool) → (a && b) ≡ true → (a ≡ true) × (b ≡ true)
-both true b e = (refl, e)
-both false b e = absurd (false≢true e)
-
 -- what is found is one of them, of that path and kind
 pub found_in : (path : PathNames) (k : Kind) (ws : List Holding) (x : Holding) → held_at path k ws ≡ Some x → IsIn x ws × (x.path ≡ path) × (x.kind ≡ k)
-found_in path k [] x e = absurd (none_some x e)
+found_in path k [] x e = absurd (none-some x e)
 found_in path k (w ∷ ws) x e = by_same (same_watch path k w) refl e (found_in path k ws x)
   where
     its : same_watch path k w ≡ true → (w.path ≡ path) × (w.kind ≡ k)
-    its f = let y = both (same_path w.path path) (same_kind w.kind k) f in (same_path_is w.path path y.0, kind_is w.kind k y.1)
+    its f = let y = and_parts (same_path w.path path) (same_kind w.kind k) f in (same_path_is w.path path y.0, kind_is w.kind k y.1)
 
     by_same : (b : Bool) → same_watch path k w ≡ b → (if b then Some w else held_at path k ws) ≡ Some x → (held_at path k ws ≡ Some x → IsIn x ws × (x.path ≡ path) × (x.kind ≡ k)) → IsIn x (w ∷ ws) × (x.path ≡ path) × (x.kind ≡ k)
-    by_same true f g i = let s = some_same w x g in let y = its f in (inl (sym s), ap (λ z. z.path) (sym s) ∙ y.0, ap (λ z. z.kind) (sym s) ∙ y.1)
+    by_same true f g i = let s = same_Some w x g in let y = its f in (inl (sym s), ap (λ z. z.path) (sym s) ∙ y.0, ap (λ z. z.kind) (sym s) ∙ y.1)
     by_same false f g i = let y = i g in (inr y.0, y.1, y.2)
 
 -- of another path or kind than these
@@ -55,8 +48,8 @@ held_at_not path q k j (w ∷ ws) d = by_same (same_watch q j w) refl (same_watc
   where
     clash : same_watch q j w ≡ true → same_watch path k w ≡ true → ⊥
     clash f g =
-        let a = both (same_path w.path q) (same_kind w.kind j) f in
-        let b = both (same_path w.path path) (same_kind w.kind k) g in
+        let a = and_parts (same_path w.path q) (same_kind w.kind j) f in
+        let b = and_parts (same_path w.path path) (same_kind w.kind k) g in
         d (subst (λ z. same_path z path ≡ true) (same_path_is w.path q a.0) b.0) (subst (λ z. same_kind z k ≡ true) (kind_is w.kind j a.1) b.1)
 
     by_same : (b : Bool) → same_watch q j w ≡ b → (a : Bool) → same_watch path k w ≡ a → held_at path k (not_held q j ws) ≡ held_at path k ws → held_at path k (if b then not_held q j ws else w ∷ not_held q j ws) ≡ (if a then Some w else held_at path k ws)
@@ -91,8 +84,8 @@ pub matches_later : (p : Plan) (c : ℕ) (e : Entry) (h : List Entry) (held : Li
 matches_later p c e h held ws l a m = record {
   there = λ id n w f k q.
       let y = a id f in
-      let s = some_same w y.watch (sym k ∙ known_stays p id e h y.watch l y.known) in
-      let t = some_same n y.first (sym q ∙ or_stays (first_of p id h) (registered_in p id h e.op) y.first y.registered) in
+      let s = same_Some w y.watch (sym k ∙ known_stays p id e h y.watch l y.known) in
+      let t = same_Some n y.first (sym q ∙ or_stays (first_of p id h) (registered_in p id h e.op) y.first y.registered) in
       subst (λ z. held_at z.path z.kind ws ≡ Some (record { path = z.path; kind = z.kind; at = n })) (sym s) (subst (λ z. held_at y.watch.path y.watch.kind ws ≡ Some (record { path = y.watch.path; kind = y.watch.kind; at = z })) (sym t) (m.there id y.first y.watch f y.known y.registered));
   back = λ x i. let y = m.back x i in record { id = y.id; holds = y.holds; watch = y.watch; known = known_stays p y.id e h y.watch l y.known; its_path = y.its_path; its_kind = y.its_kind; first = or_stays (first_of p y.id h) (registered_in p y.id h e.op) x.at y.first };
 }
@@ -106,8 +99,8 @@ matches_dropped p h held ws j v k differ m = record {
   where
     apart : (x : Holding) → same_watch v.path v.kind x ≡ false → (z : IsOfHeld p h held x) → z.id ≡ j → ⊥
     apart x f z e =
-        let s = some_same z.watch v (sym z.known ∙ (ap (λ n. known_watch p n h) e ∙ k)) in
-        false≢true (sym f ∙ rw (sym z.its_path ∙ ap (λ w. w.path) s, sym z.its_kind ∙ ap (λ w. w.kind) s, same_path_self v.path, kind_self v.kind) refl)
+        let s = same_Some z.watch v (sym z.known ∙ (ap (λ n. known_watch p n h) e ∙ k)) in
+        false≢true (sym f ∙ rw (sym z.its_path ∙ ap (λ w. w.path) s, sym z.its_kind ∙ ap (λ w. w.kind) s, same_path_self v.path, kind_itself v.kind) refl)
 
 -- a number that isn't held is dropped
 pub matches_without : (p : Plan) (h : List Entry) (held : List ℕ) (ws : List Holding) (j : ℕ) → contains j held ≡ false → Matches p h held ws → Matches p h (without j held) ws
@@ -128,7 +121,7 @@ pub matches_added : (p : Plan) (h : List Entry) (held more : List ℕ) (ws : Lis
 matches_added p h held more ws id n v path k back old new fresh a q s t differ m = subst (λ o. Matches p h more (held_unless o (record { path = path; kind = k; at = n }) ws)) (sym none) (record { there = there; back = behind })
   where
     clash : (i : ℕ) (w : Watch) → contains i held ≡ true → known_watch p i h ≡ Some w → w.path ≡ path → w.kind ≡ k → ⊥
-    clash i w f g x y = false≢true (sym fresh ∙ subst (λ z. contains z held ≡ true) (differ i w f g (rw (s, x, same_path_self path) refl) (rw (t, y, kind_self k) refl)) f)
+    clash i w f g x y = false≢true (sym fresh ∙ subst (λ z. contains z held ≡ true) (differ i w f g (rw (s, x, same_path_self path) refl) (rw (t, y, kind_itself k) refl)) f)
 
     none : held_at path k ws ≡ None
     none = by_found (held_at path k ws) refl
@@ -144,14 +137,14 @@ matches_added p h held more ws id n v path k back old new fresh a q s t differ m
         apart x = by_same (same_path path w.path && same_kind k w.kind) refl
           where
             by_same : (c : Bool) → (same_path path w.path && same_kind k w.kind) ≡ c → c ≡ false
-            by_same true y = let z = both (same_path path w.path) (same_kind k w.kind) y in absurd (clash i w x g (sym (same_path_is path w.path z.0)) (sym (kind_is k w.kind z.1)))
+            by_same true y = let z = and_parts (same_path path w.path) (same_kind k w.kind) y in absurd (clash i w x g (sym (same_path_is path w.path z.0)) (sym (kind_is k w.kind z.1)))
             by_same false y = refl
 
         own : i ≡ id → held_at w.path w.kind (record { path = path; kind = k; at = n } ∷ ws) ≡ Some (record { path = w.path; kind = w.kind; at = b })
         own x =
-            let y = some_same w v (sym g ∙ (ap (λ z. known_watch p z h) x ∙ a)) in
-            let z = some_same b n (sym e ∙ (ap (λ c. first_of p c h) x ∙ q)) in
-            rw (ap (λ c. c.path) y ∙ s, ap (λ c. c.kind) y ∙ t, same_path_self path, kind_self k, z) refl
+            let y = same_Some w v (sym g ∙ (ap (λ z. known_watch p z h) x ∙ a)) in
+            let z = same_Some b n (sym e ∙ (ap (λ c. first_of p c h) x ∙ q)) in
+            rw (ap (λ c. c.path) y ∙ s, ap (λ c. c.kind) y ∙ t, same_path_self path, kind_itself k, z) refl
 
         either : (contains i held ≡ true) ⊎ (i ≡ id) → held_at w.path w.kind (record { path = path; kind = k; at = n } ∷ ws) ≡ Some (record { path = w.path; kind = w.kind; at = b })
         either (inl x) = rw (apart x) (m.there i b w x g e)

@@ -1,8 +1,8 @@
 -- Each notification fits its watch, and a client's are in the order of the transactions.
 use Rattle.std.specs.Prelude.{◌==◌, nat_le, max}
 use Rattle.std.proofs.Common.{◌≡◌, ℕ, ◌<◌, ◌≤◌, ◌⊎◌, inl, inr, if◌then◌else◌, Bool, true, false, List, [], ◌∷◌, refl, sym, ◌∙◌, ap, subst, arith, Option, Some, None}
-use Rattle.std.proofs.lemmas.Bool.{false≢true}
-use Rattle.std.proofs.lemmas.Bool.Decides.{nat_tests}
+use Rattle.std.proofs.lemmas.Bool.{false≢true, le-leb, leb-true, eqb-true, leb-false}
+use Rattle.std.proofs.lemmas.Option.{same_Some, none-some}
 use Rattle.fk_print.specs.declared.entry.Entry.{Entry}
 use Rattle.fk_print.specs.declared.line.Line.{Line}
 use Rattle.fk_print.specs.declared.line.Line.TheVariants as line
@@ -11,7 +11,7 @@ use Rattle.fk_print.specs.declared.op.Op.TheVariants as op
 use Rattle.fk_spec.specs.Plan.{Plan}
 use Rattle.fk_spec.specs.Settling.{mark_of}
 use Rattle.fk_spec.specs.Lanes as lanes
-use Rattle.fk_spec.specs.Lanes.{Message, inbox_of}
+use Rattle.fk_spec.specs.Lanes.{inbox_of}
 use Rattle.fk_spec.specs.Sight.{sight_of}
 use Rattle.fk_spec.specs.Watches.{Firing, firing_of}
 use Rattle.fk_spec.specs.Client.{by_result, client_in, client_of, contains, ready_first, Sent}
@@ -23,12 +23,11 @@ use Rattle.fk_spec.specs.Next.{IsHistory}
 use Rattle.fk_law.specs.Due.{IsDue}
 use Rattle.fk_law.proofs.Due.{due}
 use Rattle.fk_law.proofs.Growing.{numbers_never_fall}
-use Rattle.fk_law.proofs.Numbers.{above, at_most, tested}
 use Rattle.fk_law_watch.proofs.Reading.{next_is}
 use Rattle.fk_law_watch.proofs.Telling.{announced_has_fired}
 use Rattle.fk_law_client.specs.Lines.{EachAfter, IsNotice, IsPublication, LineIsAfter, kept_after}
-use Rattle.fk_law_client.proofs.Lines.{client_lines_are, each_mapped, each_onto, lines_are, other_lines_are}
-use Rattle.fk_law_client.proofs.Messages.{inbox_messages, none_some, same_number, some_same}
+use Rattle.fk_law_client.proofs.Lines.{client_lines_are, each_mapped, each_onto, other_lines_are}
+use Rattle.fk_law_client.proofs.Messages.{inbox_messages}
 use Rattle.fk_law_client.proofs.Tracking.{first_true}
 use Rattle.fk_law_reply.specs.Plans.{HasFittingVerbs}
 use Rattle.fk_law_held.specs.Notices.{AreInOrder, HeldAreBehindNotices, NotificationsFitTheWatches, StandsBehind}
@@ -41,6 +40,8 @@ use Rattle.fk_law_held.proofs.Passing.{each_append}
 use Rattle.fk_tree.specs.declared.change.Kind.{Kind}
 use Rattle.fk_tree.specs.declared.change.Change.{Change}
 use Rattle.fk_base.specs.Path.{PathNames}
+use Rattle.fk_law.proofs.Printing.{lines_are}
+use Rattle.fk_law_client.proofs.Seen.{max_up}
 
 -- The watch that is told now. --------------------------------------------------------------------------
 
@@ -49,7 +50,7 @@ told_low : (p : Plan) (c j : ℕ) (e : Entry) (h : List Entry) (g : Firing) → 
 told_low p c j e h g l q r =
     let d : IsDue p h (op.TakeWatch c j) = subst (IsDue p h) q (due p e h l) in
     let a = announced_has_fired p j h l.0 (first_true p c h (inbox_of p c h) d.0 (lanes.Watch j) d.1 (inbox_messages p c h l.0)) in
-    subst (λ z. z.tx ≤ mark_of h) (some_same a.0 g (sym a.1 ∙ r)) a.2
+    subst (λ z. z.tx ≤ mark_of h) (same_Some a.0 g (sym a.1 ∙ r)) a.2
 
 no_set : (c b i j : ℕ) → op.TakeWatch c j ≡ op.WatchSet c b i → ⊥
 no_set c b i j e = grind arith
@@ -69,8 +70,8 @@ told_first p c i j e h f g l q r a k = either (fired_before p i e h f l k)
     held (inr x) = absurd (no_set c x.0 i j (sym q ∙ x.1))
 
     old : firing_of p i h ≡ Some f → (b : Bool) → nat_le g.tx f.tx ≡ b → g.tx ≤ f.tx
-    old x true y = at_most g.tx f.tx y
-    old x false y = absurd (first i f g (held (held_back p c i e h l a)) x r (above g.tx f.tx y))
+    old x true y = leb-true g.tx f.tx y
+    old x false y = absurd (first i f g (held (held_back p c i e h l a)) x r (leb-false g.tx f.tx y))
 
     either : (firing_of p i h ≡ Some f) ⊎ (mark_of h < f.tx) → g.tx ≤ f.tx
     either (inl x) = old x (nat_le g.tx f.tx) refl
@@ -87,14 +88,11 @@ bound_later p c n e h l b = ((let g = (numbers_never_fall h (e ∷ [])).mark in 
   where
     by_held : (id : ℕ) (f : Firing) → (contains id (client_of p c h).held ≡ true) ⊎ ((k : ℕ) × (e.op ≡ op.WatchSet c k id)) → (firing_of p id h ≡ Some f) ⊎ (mark_of h < f.tx) → n ≤ f.tx
     by_held id f (inl x) (inl y) = b.1 id f x y
-    by_held id f (inr x) (inl y) = absurd (none_some f (sym (registered_unfired p c x.0 id e h l x.1) ∙ y))
+    by_held id f (inr x) (inl y) = absurd (none-some f (sym (registered_unfired p c x.0 id e h l x.1) ∙ y))
     by_held id f x (inr y) = let a = b.0 in omega (arith, a, y)
 
-max_both : (a b m : ℕ) → a ≤ m → b ≤ m → max a b ≤ m
-max_both a b m x y = grind (arith, nat_tests)
-
 bound_max : (p : Plan) (c t n : ℕ) (h : List Entry) → Bound p c h t → Bound p c h n → Bound p c h (max t n)
-bound_max p c t n h a b = (max_both t n (mark_of h) a.0 b.0, λ id f x y. max_both t n f.tx (a.1 id f x y) (b.1 id f x y))
+bound_max p c t n h a b = (max_up t n (mark_of h) a.0 b.0, λ id f x y. max_up t n f.tx (a.1 id f x y) (b.1 id f x y))
 
 notice_bound : (p : Plan) (c s t : ℕ) (e : Entry) (h : List Entry) (k : Kind) (x : Change) (q : PathNames) → s ≡ c → IsHistory p (e ∷ h) → IsNotice p s h e.op t k x q → Bound p c (e ∷ h) t
 notice_bound p c s t e h k x q z l i =
@@ -105,7 +103,7 @@ line_bound : (p : Plan) (c s n : ℕ) (e : Entry) (h : List Entry) (l : Line) (b
 line_bound p c s n e h (line.Notice d t k x q) b l i a = by_self (d == c) refl
   where
     by_self : (z : Bool) → (d == c) ≡ z → Bound p c (e ∷ h) (if z then max t n else n)
-    by_self true y = bound_max p c t n (e ∷ h) (notice_bound p c s t e h k x q (sym i.0.0 ∙ same_number d c y) l i.0.1) a
+    by_self true y = bound_max p c t n (e ∷ h) (notice_bound p c s t e h k x q (sym i.0.0 ∙ eqb-true d c y) l i.0.1) a
     by_self false y = a
 line_bound p c s n e h (line.Reply d i v sh) b l x a = a
 line_bound p c s n e h (line.Expired d t) b l x a = a
@@ -136,7 +134,7 @@ held_are_behind_notices p c h v l = let b = bound_at p c h v l in record { publi
 -- Notices. ---------------------------------------------------------------------------------------------
 
 notice_fits : (p : Plan) (c j : ℕ) (e : Entry) (h : List Entry) (f : Firing) → HasFittingVerbs p → IsHistory p (e ∷ h) → e.op ≡ op.TakeWatch c j → contains j (client_of p c h).held ≡ true → firing_of p j h ≡ Some f → NoticeFits p (line.Notice c f.tx f.watch.kind f.change f.watch.path) (lines_of h)
-notice_fits p c j e h f v l q a r = (subst (λ o. FiresAs o (txs_of h) (record { tx = f.tx; change = f.change })) (sym found) stands, tested (last_notice c (lines_of h)) f.tx ((held_are_behind_notices p c h v l.0).behind j f a r))
+notice_fits p c j e h f v l q a r = (subst (λ o. FiresAs o (txs_of h) (record { tx = f.tx; change = f.change })) (sym found) stands, le-leb (last_notice c (lines_of h)) f.tx ((held_are_behind_notices p c h v l.0).behind j f a r))
   where
     stands : FiresAs (Some (record { path = f.watch.path; kind = f.watch.kind; at = (held_watches_are_accounted_for p c j h l.0 a).first })) (txs_of h) (record { tx = f.tx; change = f.change })
     stands = firing_stands_in_the_lines p j (held_watches_are_accounted_for p c j h l.0 a).first h f v l.0 r (held_watches_are_accounted_for p c j h l.0 a).registered (told_low p c j e h f l q r)

@@ -3,6 +3,7 @@ use Rattle.std.specs.Prelude.{nat_lt}
 use Rattle.std.proofs.Common.{◌≡◌, ℕ, ◌+◌, ◌<◌, ◌≤◌, ◌++◌, inl, inr, if◌then◌else◌, Bool, true, false, List, [], ◌∷◌, refl, sym, ◌∙◌, ap, subst, arith, Option, Some, None}
 use Rattle.std.proofs.lemmas.Bool.{false≢true, cond_both}
 use Rattle.std.proofs.lemmas.Bool.Decides.{nat_tests}
+use Rattle.std.proofs.lemmas.Option.{same_Some, none-some}
 use Rattle.fk_base.specs.declared.code.Code.TheVariants as code
 use Rattle.fk_tree.specs.Ask.{answer_from}
 use Rattle.fk_tree.specs.declared.node.Node.{Node}
@@ -29,11 +30,11 @@ use Rattle.fk_spec.specs.Holding.{Fired, Holding, firing_among, held_by, is_beyo
 use Rattle.fk_spec.specs.PublicLines.{lines_of, txs_among, txs_of}
 use Rattle.fk_spec.specs.Promises.{PassesNone, WatchesKept, passes_to}
 use Rattle.fk_spec.specs.Next.{IsHistory}
+use Rattle.fk_law.proofs.Printing.{lines_are}
 use Rattle.fk_law_watch.proofs.Reading.{next_is}
 use Rattle.fk_law_client.specs.Lines.{EachAfter, IsPublication, kept_after}
 use Rattle.fk_law_client.specs.Operations.{OperationSays}
-use Rattle.fk_law_client.proofs.Lines.{each_mapped, each_onto, lines_are, other_lines_are, read_sought}
-use Rattle.fk_law_client.proofs.Messages.{none_some, some_same}
+use Rattle.fk_law_client.proofs.Lines.{each_mapped, each_onto, other_lines_are, read_sought}
 use Rattle.fk_law_client.proofs.Operating.{client_operations_say}
 use Rattle.fk_law_reply.specs.Plans.{HasFittingVerbs}
 use Rattle.fk_law_reply.proofs.ClosedClients.{first_sought, sought_shown}
@@ -71,7 +72,7 @@ passes_shown : (verb : Verb) (s : Shown) (n : ℕ) → passes_to verb s ≡ Some
 passes_shown verb (shown.Refused code.NoNode at place) n e = by_write (is_write verb) e
   where
     by_write : (b : Bool) → (if b then None else Some at) ≡ Some n → Some at ≡ Some n
-    by_write true f = absurd (none_some n f)
+    by_write true f = absurd (none-some n f)
     by_write false f = f
 passes_shown verb (shown.Refused cd at place) n e = absurd (grind arith)
 passes_shown verb (shown.Created t path) n e = e
@@ -81,8 +82,8 @@ passes_shown verb (shown.Multi t replies) n e = e
 passes_shown verb (shown.Got at bytes stat) n e = e
 passes_shown verb (shown.Stated at stat) n e = e
 passes_shown verb (shown.Listed at names) n e = e
-passes_shown verb (shown.Plain cd) n e = absurd (none_some n e)
-passes_shown verb (shown.Lost path own found moment) n e = absurd (none_some n e)
+passes_shown verb (shown.Plain cd) n e = absurd (none-some n e)
+passes_shown verb (shown.Lost path own found moment) n e = absurd (none-some n e)
 
 shown_passes : (p : Plan) (c m : ℕ) (h : List Entry) (verb : Verb) (s : Shown) → HasFittingVerbs p → IsHistory p h → ((n : ℕ) → shown_number s ≡ Some n → n ≤ m) → FiresBeyond p c h m → PassesNone (txs_of h) (held_by p c (lines_of h)) (passes_to verb s)
 shown_passes p c m h verb s v l b f = by_number (passes_to verb s) refl
@@ -117,26 +118,26 @@ each_append P [] ys b i f = f b
 each_append P (x ∷ xs) ys b i f = (i.0, each_append P xs ys (x ∷ b) i.1 f)
 
 answer_number : (n m : ℕ) (a : Answer) → shown_number (shown_answer n a) ≡ Some m → m ≤ n
-answer_number n m (answer.Got bytes stat) e = let s = some_same n m e in omega (arith, s)
-answer_number n m (answer.Stated stat) e = let s = some_same n m e in omega (arith, s)
-answer_number n m (answer.Listed names) e = let s = some_same n m e in omega (arith, s)
-answer_number n m answer.NoNode e = let s = some_same n m e in omega (arith, s)
+answer_number n m (answer.Got bytes stat) e = let s = same_Some n m e in omega (arith, s)
+answer_number n m (answer.Stated stat) e = let s = same_Some n m e in omega (arith, s)
+answer_number n m (answer.Listed names) e = let s = same_Some n m e in omega (arith, s)
+answer_number n m answer.NoNode e = let s = same_Some n m e in omega (arith, s)
 
 asked_number : (n m : ℕ) (found : Option Node) (a : Option Ask) → shown_number (shown_asked n found a) ≡ Some m → m ≤ n
-asked_number n m found None e = absurd (none_some m e)
+asked_number n m found None e = absurd (none-some m e)
 asked_number n m found (Some a) e = by_want a.want e
   where
     by_want : (w : Want) → shown_number (shown_read n found w) ≡ Some m → m ≤ n
     by_want (Reads q b) f = answer_number n m (answer_from q found) f
-    by_want Unfit f = absurd (none_some m f)
-    by_want (Writes r) f = absurd (none_some m f)
+    by_want Unfit f = absurd (none-some m f)
+    by_want (Writes r) f = absurd (none-some m f)
 
 read_kept : (p : Plan) (c i m : ℕ) (h : List Entry) (r : Reading) → HasFittingVerbs p → IsHistory p h → number_read (seen_by c h) r ≤ m → FiresBeyond p c h m → WatchesKept p (read_line c (asks_in p c) (seen_by c h) i r) (lines_of h)
 read_kept p c i m h r v l b f = shown_passes p c m h (verb_asked (asked p c i)) (shown_asked (number_read (seen_by c h) r) r.node (asked p c i)) v l (λ n e. let a = asked_number (number_read (seen_by c h) r) n r.node (asked p c i) e in omega (arith, a, b)) f
 
 first_kept : (p : Plan) (c i n : ℕ) (h : List Entry) (xs : List Sent) → HasFittingVerbs p → IsHistory p h → target_sent by_result xs ≡ Some (record { command = i; number = n }) → n ≤ mark_of h → FiresBeyond p c h (mark_of h) → EachAfter (WatchesKept p) (first_line (wording p c h) xs) (lines_of h)
 first_kept p c i n h [] v l q b f = tt
-first_kept p c i n h (s ∷ ss) v l q b f = (shown_passes p c (mark_of h) h (verb_asked (asked p c s.command)) (shown_result p h s.result) v l (λ m e. let z = some_same m n (sym e ∙ sought_shown p h n s.result (first_sought s i n q)) in omega (arith, z, b)) f, tt)
+first_kept p c i n h (s ∷ ss) v l q b f = (shown_passes p c (mark_of h) h (verb_asked (asked p c s.command)) (shown_result p h s.result) v l (λ m e. let z = same_Some m n (sym e ∙ sought_shown p h n s.result (first_sought s i n q)) in omega (arith, z, b)) f, tt)
 
 look_kept : (p : Plan) (c i n : ℕ) (h : List Entry) (r : Option Reading) → HasFittingVerbs p → IsHistory p h → (client_of p c h).reading ≡ r → target_of by_result (seen_by c h) (client_of p c h) r ≡ Some (record { command = i; number = n }) → n ≤ mark_of h → FiresBeyond p c h (mark_of h) → EachAfter (WatchesKept p) (looked_lines (wording p c h) (seen_by c h) (client_of p c h) r) (lines_of h)
 look_kept p c i n h None v l e q b f = first_kept p c i n h (client_of p c h).sent v l q b f
@@ -155,8 +156,8 @@ notice_kept p c (Some f) b = (tt, tt)
 own_kept : (p : Plan) (c : ℕ) (e : Entry) (h : List Entry) (o : Op) → HasFittingVerbs p → IsHistory p (e ∷ h) → e.op ≡ o → client_in o ≡ Some c → OperationSays p c h o → EachAfter (WatchesKept p) (own_lines (wording p c h) (sight_of p c h) (client_of p c h) o) (lines_of h)
 own_kept p c e h (op.TakeEvicted d k t) v l q f a = cond_both (client_of p c h).closed [] (line.Expired c t ∷ []) (λ ls. EachAfter (WatchesKept p) ls (lines_of h)) (λ _. tt) (λ _. (tt, tt))
 own_kept p c e h (op.TakeWatch d j) v l q f a = cond_both (contains j (client_of p c h).held) (notice_of c (firing_of p j h)) [] (λ ls. EachAfter (WatchesKept p) ls (lines_of h)) (λ _. notice_kept p c (firing_of p j h) (lines_of h)) (λ _. tt)
-own_kept p c e h (op.LookOk d i m) v l q f a = look_kept p c i a.0.number h (client_of p c h).reading v l.0 refl a.0.target a.2 (λ id x g k. look_passes_no_held_watch p c i m id e h x l (q ∙ ap (λ z. op.LookOk z i m) (some_same d c f)) g k)
-own_kept p c e h (op.WatchSet d i id) v l q f a = set_kept p c i h (client_of p c h).reading v l.0 refl (λ r g. subst (λ z. z.looked ≡ true) (some_same a.0.reading r (sym a.0.made ∙ g)) a.0.looked)
+own_kept p c e h (op.LookOk d i m) v l q f a = look_kept p c i a.0.number h (client_of p c h).reading v l.0 refl a.0.target a.2 (λ id x g k. look_passes_no_held_watch p c i m id e h x l (q ∙ ap (λ z. op.LookOk z i m) (same_Some d c f)) g k)
+own_kept p c e h (op.WatchSet d i id) v l q f a = set_kept p c i h (client_of p c h).reading v l.0 refl (λ r g. subst (λ z. z.looked ≡ true) (same_Some a.0.reading r (sym a.0.made ∙ g)) a.0.looked)
 own_kept p c e h (op.ReadFault d i) v l q f a = (tt, tt)
 own_kept p c e h (op.WatchFault d i) v l q f a = (tt, tt)
 own_kept p c e h o v l q f a = tt

@@ -1,6 +1,8 @@
 -- A watch function tells the client of a watch that it has fired.
 use Rattle.std.specs.Prelude.{◌==◌}
 use Rattle.std.proofs.Common.{◌≡◌, ℕ, if◌then◌else◌, Bool, true, false, List, [], ◌∷◌, refl, sym, ◌∙◌, subst, Option, Some, None}
+use Rattle.std.proofs.lemmas.Option.{none-some}
+use Rattle.std.proofs.lemmas.Bool.{eqb-true}
 use Rattle.fk_tree.specs.Watch.{first_taken}
 use Rattle.fk_tree.specs.declared.change.Change.{Change}
 use Rattle.fk_tree.specs.declared.change.Touch.{Touch}
@@ -23,7 +25,6 @@ use Rattle.fk_law_watch.specs.Noting.{fired_at, fired_at_in}
 use Rattle.fk_law_watch.proofs.Handing.{note_tells_what_its_push_fired}
 use Rattle.fk_law_watch.proofs.Listing.{AreUnique, fires_none}
 use Rattle.fk_law_watch.proofs.SetWatches.{firing_never_changes, or_stays, watches_unique}
-use Rattle.fk_law_client.proofs.Messages.{none_some, same_number}
 use Rattle.fk_law_held.specs.Announced.{ToldWatchIsOfItsClient}
 
 -- Firings by their numbers. ----------------------------------------------------------------------------
@@ -45,7 +46,7 @@ firings_with t ts (w ∷ ws) u = by_change (first_taken w.path w.kind ts) (firin
     apart f q = by_eq (w.id == f.watch.id) refl
       where
         by_eq : (b : Bool) → (w.id == f.watch.id) ≡ b → b ≡ false
-        by_eq true g = absurd (none_some f (sym (fires_none f.watch.id t ts ws (subst (λ z. has_id z ws ≡ false) (same_number w.id f.watch.id g) u.0)) ∙ q))
+        by_eq true g = absurd (none-some f (sym (fires_none f.watch.id t ts ws (subst (λ z. has_id z ws ≡ false) (eqb-true w.id f.watch.id g) u.0)) ∙ q))
         by_eq false g = refl
 
     by_change : (o : Option Change) → AllWith (firings t ts ws) (firings t ts ws) → AllWith (fired_as t w o (firings t ts ws)) (fired_as t w o (firings t ts ws))

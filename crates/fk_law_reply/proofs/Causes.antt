@@ -1,6 +1,6 @@
 -- Every refusal has its cause.
 use Rattle.std.proofs.Common.{◌≡◌, ℕ, ◌≤◌, Bool, true, false, List, [], ◌∷◌, refl, sym, ◌∙◌, ap, subst, arith, Option, Some, None}
-use Rattle.std.proofs.lemmas.Bool.{false≢true}
+use Rattle.std.proofs.lemmas.Bool.{false≢true, le-leb}
 use Rattle.fk_base.specs.declared.code.Code.{Code}
 use Rattle.fk_base.specs.declared.code.Code.TheVariants as code
 use Rattle.fk_tree.specs.Apply.{reply_of}
@@ -47,7 +47,7 @@ use Rattle.fk_law_reply.specs.Replying.{IsWriteSent, ShowsOutcome, IsRefusedUpTo
 use Rattle.fk_law_reply.proofs.ClosedClients.{applied_is, evicted_request}
 use Rattle.fk_law_reply.proofs.Explaining.{lines_are_explained}
 use Rattle.fk_law_reply.proofs.RefusedOutcomes.{refused_beyond_seen, refused_holds_at_its_number}
-use Rattle.fk_law.proofs.Numbers.{itself, tested}
+use Rattle.fk_law.proofs.Numbers.{itself}
 
 -- What is no refusal. ----------------------------------------------------------------------------------
 
@@ -78,7 +78,7 @@ refused_cause p h c i k place at cd x v l e m q b =
     checked = subst (λ w. check w c m.request ≡ Some (record { code = cd; place = place })) (sym (published_tree_is_shown p at h l b)) (refused_holds_at_its_number p c k place at cd h m.request v.reads l q m.asks)
 
     beyond : IsAtMost (seen_at c i h) at
-    beyond = subst (λ o. IsAtMost o at) (sym m.seen_then) (tested m.seen at (subst (λ n. n ≤ at) m.seen_with_it (refused_beyond_seen p c k place at cd h l q)))
+    beyond = subst (λ o. IsAtMost o at) (sym m.seen_then) (le-leb m.seen at (subst (λ n. n ≤ at) m.seen_with_it (refused_beyond_seen p c k place at cd h l q)))
 
 follows_it : (c k : ℕ) (s : Option ℕ) (t : Option Task) → s ≡ Some k → t ≡ Some (Follows c k) → is_follower c s t ≡ true
 follows_it c k s t e f = rw (e, f, itself c, itself k) refl
@@ -98,8 +98,8 @@ outcome_cause p h up z c i k s x (Passed loss) v l e w q m f = subst (CauseFits 
 
 expired_code : (p : Plan) (h : List Entry) (c i at : ℕ) (w : Want) → IsHistory p h → is_unfit_want w ≡ false → at ≤ mark_of h → (view_after (up_to at (committed_of p h))).closed c ≡ true → seen_at c i h ≡ Some at → CodeFits h c (record { code = code.SessionExpired; place = 0 }) at (seen_at c i h) w
 expired_code p h c i at Unfit l u b x e = absurd (false≢true (sym u))
-expired_code p h c i at (Writes r) l u b x e = (closed_refusal (published_view h at) c r (ap (λ w. w.closed c) (published_tree_is_shown p at h l b) ∙ x), subst (λ o. IsAtMost o at) (sym e) (tested at at (omega arith)))
-expired_code p h c i at (Reads q watch) l u b x e = (ap (λ w. w.closed c) (published_tree_is_shown p at h l b) ∙ x, subst (λ o. IsAtMost o at) (sym e) (tested at at (omega arith)))
+expired_code p h c i at (Writes r) l u b x e = (closed_refusal (published_view h at) c r (ap (λ w. w.closed c) (published_tree_is_shown p at h l b) ∙ x), subst (λ o. IsAtMost o at) (sym e) (le-leb at at (omega arith)))
+expired_code p h c i at (Reads q watch) l u b x e = (ap (λ w. w.closed c) (published_tree_is_shown p at h l b) ∙ x, subst (λ o. IsAtMost o at) (sym e) (le-leb at at (omega arith)))
 
 plain_cause : (p : Plan) (h up : List Entry) (z : Op) (c i : ℕ) (x : Ask) (cd : Code) → HasOwnCause c i up x (Plain cd) → CauseFits p h up z c i (shown.Plain cd)
 plain_cause p h up z c i x code.BadArguments e = tt

@@ -3,6 +3,7 @@ use Rattle.std.specs.Prelude.{◌==◌, ◌||◌, nat_eq, nat_le}
 use Rattle.std.proofs.Common.{◌≡◌, ℕ, ◌+◌, ◌≤◌, ◌++◌, ◌⊎◌, inl, inr, if◌then◌else◌, Bool, true, false, cond, List, [], ◌∷◌, refl, sym, ◌∙◌, ap, subst, arith, Option, Some, None}
 use Rattle.std.proofs.lemmas.Bool.{false≢true}
 use Rattle.std.proofs.lemmas.Bool.Decides.{nat_tests}
+use Rattle.std.proofs.lemmas.Option.{same_Some, none-some}
 use Rattle.fk_base.specs.declared.code.Code.{Code}
 use Rattle.fk_base.specs.declared.code.Code.TheVariants as code
 use Rattle.fk_tree.specs.Check.{Refusal, check, check_open}
@@ -37,6 +38,7 @@ use Rattle.fk_law.proofs.Publishing.{of_push}
 use Rattle.fk_law.proofs.Refusing.{closed_on, closed_one}
 use Rattle.fk_law.proofs.Sending.{committed_is_filled, push_asks_for_its_request}
 use Rattle.fk_law.proofs.Settled.{reached}
+use Rattle.fk_law.proofs.Printing.{lines_are}
 use Rattle.fk_law_watch.proofs.Reading.{next_is}
 use Rattle.fk_law_client.specs.Inboxes.{IsPublishedPush}
 use Rattle.fk_law_client.specs.Kept.{KeptFrom, Before, Told, Begun, begun_by}
@@ -44,8 +46,7 @@ use Rattle.fk_law_client.specs.Lines.{IsAmong, kept_after}
 use Rattle.fk_law_client.specs.Operations.{OperationSays}
 use Rattle.fk_law_client.specs.Tracking.{IsTrueResult}
 use Rattle.fk_law_client.proofs.Kept.{among_unready, client_after, kept_commands_have_their_source}
-use Rattle.fk_law_client.proofs.Lines.{lines_are}
-use Rattle.fk_law_client.proofs.Messages.{inbox_messages, none_some, some_same}
+use Rattle.fk_law_client.proofs.Messages.{inbox_messages}
 use Rattle.fk_law_client.proofs.Operating.{client_operations_say}
 use Rattle.fk_law_client.proofs.Seen.{seen_published}
 use Rattle.fk_law_client.proofs.Tracking.{first_true, seen_grows, sent_tracked}
@@ -89,11 +90,11 @@ closes_there t c a done e f g = let x : nat_le a.tx t ≡ true = grind (arith, n
 
 -- a commit that closes
 closed_by : (t c : ℕ) (a : Applied) (done : List Applied) → applied_as t done ≡ Some a → a.session ≡ c → closes a.request ≡ true → ClosedIn t c done
-closed_by t c a [] q e f = absurd (none_some a q)
+closed_by t c a [] q e f = absurd (none-some a q)
 closed_by t c a (b ∷ done) q e f = by_test (λ w. closed_by t c a done w e f) (nat_eq b.tx t) refl q
   where
     by_test : (applied_as t done ≡ Some a → ClosedIn t c done) → (x : Bool) → nat_eq b.tx t ≡ x → (if x then Some b else applied_as t done) ≡ Some a → ClosedIn t c (b ∷ done)
-    by_test g true u w = let s = some_same b a w in closes_there t c b done (grind (arith, nat_tests)) (ap (λ z. z.session) s ∙ e) (ap (λ z. closes z.request) s ∙ f)
+    by_test g true u w = let s = same_Some b a w in closes_there t c b done (grind (arith, nat_tests)) (ap (λ z. z.session) s ∙ e) (ap (λ z. closes z.request) s ∙ f)
     by_test g false u w = closed_one t c b done (g w)
 
 -- what a commit is of
@@ -101,8 +102,8 @@ pub applied_is : (p : Plan) (t n c k : ℕ) (h : List Entry) (a : Applied) (r : 
 applied_is p t n c k h a r l i q f =
     let x = of_push p t h a l q in
     let y = push_asks_for_its_request p t n c k h l i in
-    let z = some_same (record { session = a.session; k = a.k; moment = a.moment; request = a.request }) (record { session = c; k = k; moment = i.push.moment; request = y.0 }) (sym x.pushed ∙ y.2) in
-    (ap (λ v. v.session) z, ap (λ v. v.k) z, ap (λ v. v.request) z ∙ some_same y.0 r (sym y.1 ∙ f))
+    let z = same_Some (record { session = a.session; k = a.k; moment = a.moment; request = a.request }) (record { session = c; k = k; moment = i.push.moment; request = y.0 }) (sym x.pushed ∙ y.2) in
+    (ap (λ v. v.session) z, ap (λ v. v.k) z, ap (λ v. v.request) z ∙ same_Some y.0 r (sym y.1 ∙ f))
 
 published_close : (p : Plan) (c k t : ℕ) (b : Bool) (h : List Entry) (r : Request) → IsHistory p h → IsPublishedPush p c k t b h → request_of p c k h ≡ Some r → closes r ≡ true → IsClosedAt p c h t
 published_close p c k t b h r l x q f =
@@ -121,7 +122,7 @@ evict_is (request.Multi ps) e = absurd (false≢true e)
 pub evicted_request : (p : Plan) (c k t : ℕ) (h : List Entry) → IsHistory p h → IsPublishedPush p c k t true h → request_of p c k h ≡ Some (request.Close true)
 evicted_request p c k t h l x = let y = push_asks_for_its_request p t x.function c k h l x.is_of in y.1 ∙ ap Some (evict_is y.0 (ap is_evict (sym y.1) ∙ x.evicting))
 
-abbrev at_closed : Refusal
+abbrev pub at_closed : Refusal
 at_closed = record { code = code.SessionExpired; place = 0 }
 
 -- a close is refused for its closed session alone
@@ -130,7 +131,7 @@ refused_close v c place cd b e = by_flag (v.closed c) refl e
   where
     by_flag : (x : Bool) → v.closed c ≡ x → (if x then Some at_closed else check_open v c (request.Close b)) ≡ Some (record { code = cd; place = place }) → v.closed c ≡ true
     by_flag true f g = f
-    by_flag false f g = absurd (none_some (record { code = cd; place = place }) g)
+    by_flag false f g = absurd (none-some (record { code = cd; place = place }) g)
 
 -- An operation that closes a client. -------------------------------------------------------------------
 
@@ -141,8 +142,8 @@ record ClosesNow (p : Plan) (c : ℕ) (e : Entry) (h : List Entry) : Type 0 wher
   pub closed : IsClosedAt p c h number
 
 line_shows : (c n m : ℕ) (o : Option ℕ) → o ≡ Some n → n ≤ (if c == c then number_or m o else m)
-line_shows c n m None e = absurd (none_some n e)
-line_shows c n m (Some k) e = let s = some_same k n e in grind (arith, nat_tests)
+line_shows c n m None e = absurd (none-some n e)
+line_shows c n m (Some k) e = let s = same_Some k n e in grind (arith, nat_tests)
 
 first_shows : (p : Plan) (h : List Entry) (c n : ℕ) (s : Sent) (ss xs : List Sent) (rest : List Line) (m : ℕ) → xs ≡ s ∷ ss → shown_number (shown_result p h s.result) ≡ Some n → n ≤ seen_lines c (first_line (wording p c h) xs ++ rest) m
 first_shows p h c n s ss xs rest m e q =
@@ -161,21 +162,21 @@ applied_number t None = refl
 applied_number t (Some a) = reply_number t (reply_of a)
 
 pub sought_shown : (p : Plan) (h : List Entry) (n : ℕ) (r : Result) → number_looked_for r ≡ Some n → shown_number (shown_result p h r) ≡ Some n
-sought_shown p h n Open e = absurd (none_some n e)
+sought_shown p h n Open e = absurd (none-some n e)
 sought_shown p h n (Settled (Committed t)) e = applied_number t (committed_as p t h) ∙ e
 sought_shown p h n (Settled (Refused cd place at)) e = e
-sought_shown p h n (Settled (Passed loss)) e = absurd (none_some n e)
-sought_shown p h n (Plain cd) e = absurd (none_some n e)
-sought_shown p h n (Expired at) e = absurd (none_some n e)
+sought_shown p h n (Settled (Passed loss)) e = absurd (none-some n e)
+sought_shown p h n (Plain cd) e = absurd (none-some n e)
+sought_shown p h n (Expired at) e = absurd (none-some n e)
 
 pub first_sought : (s : Sent) (i n : ℕ) → target_with s.command (number_looked_for s.result) ≡ Some (record { command = i; number = n }) → number_looked_for s.result ≡ Some n
 first_sought s i n q = by_number (number_looked_for s.result) q
   where
     by_number : (o : Option ℕ) → target_with s.command o ≡ Some (record { command = i; number = n }) → o ≡ Some n
-    by_number None w = absurd (none_some _ w)
-    by_number (Some m) w = ap (λ t. Some t.number) (some_same (record { command = s.command; number = m }) (record { command = i; number = n }) w)
+    by_number None w = absurd (none-some _ w)
+    by_number (Some m) w = ap (λ t. Some t.number) (same_Some (record { command = s.command; number = m }) (record { command = i; number = n }) w)
 
-writes_same : (r s : Request) → Writes r ≡ Writes s → r ≡ s
+pub writes_same : (r s : Request) → Writes r ≡ Writes s → r ≡ s
 writes_same r s e = cc
 
 close_known : (p : Plan) (c n : ℕ) (h : List Entry) (s : Sent) (x : IsEntered p c (client_of p c h).begun h s) → HasFittingVerbs p → IsHistory p h → IsTrueResult p c s.k h s.result → is_close (asked p c s.command) ≡ true → number_looked_for s.result ≡ Some n → IsClosedAt p c h n
@@ -185,12 +186,12 @@ close_known p c n h s x v l t f q = by_result s.result t q
     asks b = let m = its_message p c (client_of p c h).begun h s x b in m.asks ∙ ap Some (writes_same m.request (request.Close false) (sym m.writes ∙ (v.closes c s.command x.ask x.is_asked).wants (ap is_close (sym x.is_asked) ∙ f)))
 
     by_result : (r : Result) → IsTrueResult p c s.k h r → number_looked_for r ≡ Some n → IsClosedAt p c h n
-    by_result Open i e = absurd (none_some n e)
-    by_result (Settled (Committed u)) i e = subst (IsClosedAt p c h) (some_same u n e) (published_close p c s.k u false h (request.Close false) l i (asks (reached p i.function c s.k h l i.is_of.task).0) refl)
-    by_result (Settled (Refused cd place at)) i e = subst (IsClosedAt p c h) (some_same at n e) (refused_close (view_after (up_to at (committed_of p h))) c place cd false (refused_holds_at_its_number p c s.k place at cd h (request.Close false) v.reads l i (asks (outcome_is_of_a_settled p c s.k h (Refused cd place at) l i).0)))
-    by_result (Settled (Passed loss)) i e = absurd (none_some n e)
-    by_result (Plain cd) i e = absurd (none_some n e)
-    by_result (Expired at) i e = absurd (none_some n e)
+    by_result Open i e = absurd (none-some n e)
+    by_result (Settled (Committed u)) i e = subst (IsClosedAt p c h) (same_Some u n e) (published_close p c s.k u false h (request.Close false) l i (asks (reached p i.function c s.k h l i.is_of.task).0) refl)
+    by_result (Settled (Refused cd place at)) i e = subst (IsClosedAt p c h) (same_Some at n e) (refused_close (view_after (up_to at (committed_of p h))) c place cd false (refused_holds_at_its_number p c s.k place at cd h (request.Close false) v.reads l i (asks (outcome_is_of_a_settled p c s.k h (Refused cd place at) l i).0)))
+    by_result (Settled (Passed loss)) i e = absurd (none-some n e)
+    by_result (Plain cd) i e = absurd (none-some n e)
+    by_result (Expired at) i e = absurd (none-some n e)
 
 look_closes : (p : Plan) (c i n : ℕ) (e : Entry) (h : List Entry) (xs : List Sent) → HasFittingVerbs p → IsHistory p (e ∷ h) → (client_of p c h).sent ≡ xs → e.lines ≡ first_line (wording p c h) (client_of p c h).sent ++ reply_lines (wording p c h) (ready_first by_result (kept_after p c h e.op)) → target_sent by_result xs ≡ Some (record { command = i; number = n }) → (looked_for by_result (asks_in p c) xs (client_of p c h)).closed ≡ true → ((client_of p c h).closed ≡ true) ⊎ ClosesNow p c e h
 look_closes p c i n e h [] v l q g t f = inl f
@@ -240,7 +241,7 @@ eviction_closes p c k t e h false l f x g = inr (record {
 })
 
 closes_now : (p : Plan) (c : ℕ) (e : Entry) (h : List Entry) (o : Op) → HasFittingVerbs p → IsHistory p (e ∷ h) → client_in o ≡ Some c → OperationSays p c h o → IsDue p h o → e.lines ≡ own_lines (wording p c h) (sight_of p c h) (client_of p c h) o ++ reply_lines (wording p c h) (ready_first by_result (kept_after p c h e.op)) → (acted_by (sight_of p c h) o (client_of p c h)).closed ≡ true → ((client_of p c h).closed ≡ true) ⊎ ClosesNow p c e h
-closes_now p c e h (op.TakeEvicted d k t) v l q a i g f = let s : d ≡ c = some_same d c q in eviction_closes p c k t e h (client_of p c h).closed l refl (first_true p c h (inbox_of p c h) i.0 (Evicted k t) (subst (λ z. inbox_of p z h ≡ Evicted k t ∷ i.0) s i.1) (inbox_messages p c h l.0)) g
+closes_now p c e h (op.TakeEvicted d k t) v l q a i g f = let s : d ≡ c = same_Some d c q in eviction_closes p c k t e h (client_of p c h).closed l refl (first_true p c h (inbox_of p c h) i.0 (Evicted k t) (subst (λ z. inbox_of p z h ≡ Evicted k t ∷ i.0) s i.1) (inbox_messages p c h l.0)) g
 closes_now p c e h (op.LookOk d j m) v l q a i g f = looks_closes p c j a.0.number e h (client_of p c h).reading v l refl g a.0.target f
 closes_now p c e h (op.TakeRefused d k) v l q a i g f = inl (sym (kept_closed k (kept_outcome (sight_of p c h).head) (client_of p c h)) ∙ f)
 closes_now p c e h (op.TakeLost d k) v l q a i g f = inl (sym (kept_closed k (kept_outcome (sight_of p c h).head) (client_of p c h)) ∙ f)
@@ -278,9 +279,9 @@ local_known p c i seen h true e a f = tt
 local_known p c i seen h false e a f = (e, a, f refl)
 
 begun_known : (p : Plan) (c : ℕ) (h : List Entry) (o : Op) (s : Sent) → HasFittingVerbs p → IsHistory p h → OperationSays p c h o → begun_by p c (seen_by c h) o ≡ Some s → KnownClosed p h c s.command s.result
-begun_known p c h (op.Send d i k) s v l a g = subst (λ z. KnownClosed p h c z.command z.result) (some_same _ s g) tt
-begun_known p c h (op.SendFault d i) s v l a g = subst (λ z. KnownClosed p h c z.command z.result) (some_same _ s g) tt
-begun_known p c h (op.Local d i) s v l a g = subst (λ z. KnownClosed p h c z.command z.result) (some_same _ s g) (local_known p c i (seen_by c h) h (is_unfit (asked p c i)) refl (seen_published p c h v.reads l) (λ e. closed_clients_are_right p c h v l (either e a.1)))
+begun_known p c h (op.Send d i k) s v l a g = subst (λ z. KnownClosed p h c z.command z.result) (same_Some _ s g) tt
+begun_known p c h (op.SendFault d i) s v l a g = subst (λ z. KnownClosed p h c z.command z.result) (same_Some _ s g) tt
+begun_known p c h (op.Local d i) s v l a g = subst (λ z. KnownClosed p h c z.command z.result) (same_Some _ s g) (local_known p c i (seen_by c h) h (is_unfit (asked p c i)) refl (seen_published p c h v.reads l) (λ e. closed_clients_are_right p c h v l (either e a.1)))
   where
     either : is_unfit (asked p c i) ≡ false → (a.0.ask.want ≡ Unfit) ⊎ ((client_of p c h).closed ≡ true) → (client_of p c h).closed ≡ true
     either e (inl w) = absurd (false≢true (sym e ∙ (ap is_unfit a.0.is_asked ∙ ap is_unfit_want w)))

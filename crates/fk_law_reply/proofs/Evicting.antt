@@ -2,12 +2,14 @@
 use Rattle.std.specs.Prelude.{◌==◌, ◌&&◌, ◌||◌, if◌then◌else◌}
 use Rattle.std.proofs.Common.{◌≡◌, ℕ, ◌+◌, Bool, true, false, List, [], ◌∷◌, refl, sym, ◌∙◌, ap, subst, arith, Option, Some, None}
 use Rattle.std.proofs.lemmas.Bool.Decides.{nat_tests}
+use Rattle.std.proofs.lemmas.Option.{same_Some, none-some}
+use Rattle.std.proofs.lemmas.Bool.{or_right, eqb-true}
 use Rattle.fk_tree.specs.declared.request.Request.TheVariants as request
 use Rattle.fk_print.specs.declared.entry.Entry.{Entry}
 use Rattle.fk_print.specs.declared.op.Op.{Op}
 use Rattle.fk_print.specs.declared.op.Op.TheVariants as op
 use Rattle.fk_spec.specs.Plan.{Plan, Ask, Want, Unfit, Writes, Reads, asked}
-use Rattle.fk_spec.specs.Start.{Origin, Start, Task, Follows, Leads, Notifies, Probes, origin_here, origin_of, probes_session, request_from, request_in, request_of, sends_of, sent_in, task_of, written}
+use Rattle.fk_spec.specs.Start.{Origin, Task, Follows, Leads, Notifies, Probes, origin_here, origin_of, probes_session, request_from, request_in, sends_of, sent_in, task_of, written}
 use Rattle.fk_spec.specs.Start as start
 use Rattle.fk_spec.specs.Teller as teller
 use Rattle.fk_spec.specs.Teller.{Note}
@@ -21,10 +23,9 @@ use Rattle.fk_law.specs.Functions.{IsFor}
 use Rattle.fk_law.proofs.Due.{due}
 use Rattle.fk_law.proofs.Moving.{moved_follower, moved_leader, place_step}
 use Rattle.fk_law.proofs.Starting.{place_for}
-use Rattle.fk_law_client.proofs.Messages.{none_some, same_number, some_same}
 use Rattle.fk_law_reply.specs.Evictions.{EvictorFoundLate, EvictionIsOfALateHeartbeat}
 use Rattle.fk_law_reply.specs.Plans.{HasFittingVerbs}
-use Rattle.fk_law_tree.proofs.Members.{or_left, or_right}
+use Rattle.fk_law_tree.proofs.Members.{or_left}
 
 -- Who evicts. ------------------------------------------------------------------------------------------
 
@@ -86,7 +87,7 @@ evictor_found_late p n c h l q = subst (LateSo (has_found_late n h)) q (late_at 
 -- What is evicted. -------------------------------------------------------------------------------------
 
 its_session : (n c d : ℕ) (t : Option Task) → t ≡ Some (Probes d) → probes_session c t ≡ true → d ≡ c
-its_session n c d t e f = same_number d c (subst (λ z. probes_session c z ≡ true) e f)
+its_session n c d t e f = eqb-true d c (subst (λ z. probes_session c z ≡ true) e f)
 
 evicts_now : (p : Plan) (c k : ℕ) (h : List Entry) (o : Op) → IsHistory p h → IsDue p h o → sent_in c h o ≡ Some start.Evicted → sends_of c h + 1 ≡ k → evicts_late c k h o ≡ true
 evicts_now p c k h (op.Evict n j) l d e f = by_probe (probes_session c (task_of n h)) refl e
@@ -99,7 +100,7 @@ evicts_now p c k h (op.Evict n j) l d e f = by_probe (probes_session c (task_of 
 
     by_probe : (b : Bool) → probes_session c (task_of n h) ≡ b → (if b then Some start.Evicted else None) ≡ Some start.Evicted → ((j == k) && probes_session c (task_of n h) && has_found_late n h) ≡ true
     by_probe true g w = rw (number g, g, evictor_found_late p n d.0 h l d.1) refl
-    by_probe false g w = absurd (none_some start.Evicted w)
+    by_probe false g w = absurd (none-some start.Evicted w)
 evicts_now p c k h o l d e f = absurd (grind (arith, nat_tests))
 
 evicted_step : (p : Plan) (c k : ℕ) (e : Entry) (h : List Entry) (x : Option Origin) → sent_in c h e.op ≡ x → IsHistory p (e ∷ h) → (origin_of c k h ≡ Some start.Evicted → is_evicted_late c k h ≡ true) → origin_here (sends_of c h) k x (origin_of c k h) ≡ Some start.Evicted → is_evicted_late c k (e ∷ h) ≡ true
@@ -107,11 +108,11 @@ evicted_step p c k e h None q l i a = or_right (evicts_late c k h e.op) (is_evic
 evicted_step p c k e h (Some y) q l i a = by_number (sends_of c h + 1 == k) refl a
   where
     by_number : (b : Bool) → (sends_of c h + 1 == k) ≡ b → (if b then Some y else origin_of c k h) ≡ Some start.Evicted → is_evicted_late c k (e ∷ h) ≡ true
-    by_number true f w = or_left (evicts_late c k h e.op) (is_evicted_late c k h) (evicts_now p c k h e.op l.0 (due p e h l) (q ∙ w) (same_number (sends_of c h + 1) k f))
+    by_number true f w = or_left (evicts_late c k h e.op) (is_evicted_late c k h) (evicts_now p c k h e.op l.0 (due p e h l) (q ∙ w) (eqb-true (sends_of c h + 1) k f))
     by_number false f w = or_right (evicts_late c k h e.op) (is_evicted_late c k h) (i w)
 
 evicted : (p : Plan) (c k : ℕ) (h : List Entry) → IsHistory p h → origin_of c k h ≡ Some start.Evicted → is_evicted_late c k h ≡ true
-evicted p c k [] l a = absurd (none_some start.Evicted a)
+evicted p c k [] l a = absurd (none-some start.Evicted a)
 evicted p c k (e ∷ h) l a = evicted_step p c k e h (sent_in c h e.op) refl l (evicted p c k h l.0) a
 
 same_evict : Writes (request.Close true) ≡ Writes (request.Close false) → ⊥
@@ -119,19 +120,19 @@ same_evict e = grind arith
 
 -- no command of a client evicts
 no_command : (p : Plan) (c i : ℕ) (a : Option Ask) → HasFittingVerbs p → asked p c i ≡ a → written a ≡ Some (request.Close true) → ⊥
-no_command p c i None v e f = none_some (request.Close true) f
+no_command p c i None v e f = none-some (request.Close true) f
 no_command p c i (Some a) v e f = by_want a.want refl f
   where
     by_want : (w : Want) → a.want ≡ w → request_in w ≡ Some (request.Close true) → ⊥
-    by_want Unfit g w = none_some (request.Close true) w
-    by_want (Reads q b) g w = none_some (request.Close true) w
+    by_want Unfit g w = none-some (request.Close true) w
+    by_want (Reads q b) g w = none-some (request.Close true) w
     by_want (Writes r) g w =
-        let s = g ∙ ap Writes (some_same r (request.Close true) w) in
+        let s = g ∙ ap Writes (same_Some r (request.Close true) w) in
         let x = v.closes c i a e in
         same_evict (sym s ∙ x.wants (x.verb (request.Close true) s refl))
 
 by_origin : (p : Plan) (c k : ℕ) (h : List Entry) (o : Option Origin) → HasFittingVerbs p → origin_of c k h ≡ o → request_from p c o ≡ Some (request.Close true) → origin_of c k h ≡ Some start.Evicted
-by_origin p c k h None v e f = absurd (none_some (request.Close true) f)
+by_origin p c k h None v e f = absurd (none-some (request.Close true) f)
 by_origin p c k h (Some start.Evicted) v e f = e
 by_origin p c k h (Some (start.Sent i s)) v e f = absurd (no_command p c i (asked p c i) v refl f)
 

@@ -1,7 +1,8 @@
 -- Why each line shows what it shows.
 use Rattle.std.proofs.Common.{◌≡◌, ℕ, ◌≤◌, ◌⊎◌, inl, inr, true, false, List, [], ◌∷◌, refl, sym, ◌∙◌, ap, subst, arith, Option, Some, None}
-use Rattle.std.proofs.lemmas.Bool.{false≢true}
+use Rattle.std.proofs.lemmas.Bool.{false≢true, or_right}
 use Rattle.std.proofs.lemmas.Bool.Decides.{nat_tests}
+use Rattle.std.proofs.lemmas.Option.{same_Some, none-some}
 use Rattle.fk_tree.specs.Ask.{answer_from, ask}
 use Rattle.fk_tree.specs.Edit.{view_after}
 use Rattle.fk_print.specs.declared.entry.Entry.{Entry}
@@ -33,7 +34,7 @@ use Rattle.fk_law_client.specs.Lines.{IsAmong, IsReadyLine, IsLookedLine, IsAnsw
 use Rattle.fk_law_client.specs.Operations.{BeginsRead, OperationSays, WaitsToRegister}
 use Rattle.fk_law_client.specs.Tracking.{IsTrueResult}
 use Rattle.fk_law_client.proofs.Lines.{client_lines_are, each_mapped, other_lines_are}
-use Rattle.fk_law_client.proofs.Messages.{none_some, published_push_stays, some_same, inbox_messages}
+use Rattle.fk_law_client.proofs.Messages.{published_push_stays, inbox_messages}
 use Rattle.fk_law_client.proofs.Operating.{client_operations_say}
 use Rattle.fk_law_client.proofs.Seen.{seen_published}
 use Rattle.fk_law_client.proofs.Tracking.{acted_tracked, sent_tracked, first_true}
@@ -49,7 +50,6 @@ use Rattle.fk_law.specs.Due.{IsDue}
 use Rattle.fk_law.proofs.Due.{due}
 use Rattle.fk_spec.specs.Lanes.{Evicted, inbox_of}
 use Rattle.fk_law_reply.proofs.Evicting.{eviction_is_of_a_late_heartbeat}
-use Rattle.fk_law_tree.proofs.Members.{or_right}
 use Rattle.fk_law.proofs.Numbers.{itself}
 
 -- It stays true. ---------------------------------------------------------------------------------------
@@ -183,12 +183,12 @@ looked_why : (p : Plan) (c n : ℕ) (h up : List Entry) (z : Op) (b : List Line)
 looked_why p c n h up z b s v x l t f m w g = by_result s.result t f w
   where
     by_result : (r : Result) → IsTrueResult p c s.k h r → number_looked_for r ≡ Some n → v ≡ shown_result p h r → Why p h up z b c s.command v x.ask
-    by_result Open i j k = absurd (none_some n j)
+    by_result Open i j k = absurd (none-some n j)
     by_result (Settled (Committed tx)) i j k = applied_why p c tx h up z b s v x l i g k
-    by_result (Settled (Refused cd place at)) i j k = settled_why p c h up z b s v (Refused cd place at) x l i (subst (λ y. y ≤ mark_of h) (sym (some_same at n j)) m) k
-    by_result (Settled (Passed loss)) i j k = absurd (none_some n j)
-    by_result (Plain cd) i j k = absurd (none_some n j)
-    by_result (Expired at) i j k = absurd (none_some n j)
+    by_result (Settled (Refused cd place at)) i j k = settled_why p c h up z b s v (Refused cd place at) x l i (subst (λ y. y ≤ mark_of h) (sym (same_Some at n j)) m) k
+    by_result (Settled (Passed loss)) i j k = absurd (none-some n j)
+    by_result (Plain cd) i j k = absurd (none-some n j)
+    by_result (Expired at) i j k = absurd (none-some n j)
 
 -- a reply to a command that is entered
 entered_explained : (p : Plan) (c i : ℕ) (h up : List Entry) (z : Op) (b : List Line) (k : Sent) (v : Verb) (s : Shown) (x : IsEntered p c (client_of p c h).begun h k) → k.command ≡ i → v ≡ verb_asked (asked p c i) → Why p h up z b c k.command s x.ask → IsExplained p h up z b c i v s

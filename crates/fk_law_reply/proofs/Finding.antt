@@ -1,8 +1,9 @@
 -- A read shows the tree of the number at which it is answered.
 use Rattle.std.specs.Prelude.{◌==◌, nat_le, if◌then◌else◌, max}
 use Rattle.std.proofs.Common.{◌≡◌, ℕ, ◌+◌, ◌≤◌, ◌++◌, Bool, true, false, List, [], ◌∷◌, refl, sym, ◌∙◌, ap, subst, arith, Option, Some, None}
-use Rattle.std.proofs.lemmas.Bool.{cond_both}
+use Rattle.std.proofs.lemmas.Bool.{cond_both, eqb-true}
 use Rattle.std.proofs.lemmas.Bool.Decides.{nat_tests}
+use Rattle.std.proofs.lemmas.Option.{same_Some, none-some}
 use Rattle.fk_base.specs.Path.{PathNames}
 use Rattle.fk_tree.specs.Ask.{path_asked}
 use Rattle.fk_tree.specs.Edit.{view_after}
@@ -15,20 +16,19 @@ use Rattle.fk_spec.specs.Shown.{seen_by, seen_lines}
 use Rattle.fk_spec.specs.Settling.{Outcome, mark_of, swept_of}
 use Rattle.fk_spec.specs.Stored.{committed_of, record_of, stamp_of, up_to}
 use Rattle.fk_spec.specs.Sight.{sight_of}
-use Rattle.fk_spec.specs.Client.{acted_by, by_result, client_by, client_in, client_of, close_if, flushed, is_close, kept_outcome, looked_at, looked_for, number_read, path_read, read_by, ready_first, registers, settle_with, settled_as, Client, Reading, Sent}
-use Rattle.fk_spec.specs.Replies.{client_lines, own_lines, read_line, reply_lines, wording}
+use Rattle.fk_spec.specs.Client.{acted_by, by_result, client_by, client_in, client_of, flushed, kept_outcome, looked_at, number_read, path_read, read_by, ready_first, registers, settle_with, settled_as, Client, Reading, Sent}
+use Rattle.fk_spec.specs.Replies.{client_lines, read_line, reply_lines, wording}
 use Rattle.fk_spec.specs.Next.{IsHistory, next_lines}
 use Rattle.fk_law.proofs.Growing.{numbers_never_fall}
 use Rattle.fk_law.proofs.Leading.{mark_behind_sweep}
 use Rattle.fk_law.proofs.Publishing.{published_tree_is_shown}
 use Rattle.fk_law.proofs.Stamping.{final_below_the_sweep, record_is_the_node}
 use Rattle.fk_law.proofs.TxLines.{stamps_are_swept}
+use Rattle.fk_law.proofs.Printing.{lines_are}
 use Rattle.fk_law_watch.specs.FirstNumbers.{ReadsAreReads}
-use Rattle.fk_law_watch.proofs.Reading.{ReadSo, client_unseen, next_is, none_unseen, reads_so}
+use Rattle.fk_law_watch.proofs.Reading.{ReadSo, client_unseen, next_is, none_unseen, reads_so, looked_read, lines_by, cons_nil}
 use Rattle.fk_law_client.specs.Operations.{BeginsRead, OperationSays}
 use Rattle.fk_law_client.proofs.Acting.{begins_to_read}
-use Rattle.fk_law_client.proofs.Lines.{lines_are}
-use Rattle.fk_law_client.proofs.Messages.{same_number, none_some, some_same}
 use Rattle.fk_law_client.proofs.Operating.{client_operations_say}
 use Rattle.fk_law_client.proofs.Seen.{seen_published}
 use Rattle.fk_law_client.proofs.Tracking.{none_unanswered}
@@ -91,14 +91,6 @@ kept_read : (k : ℕ) (o : Option Outcome) (x : Client Sent) → (flushed by_res
 kept_read k None x = refl
 kept_read k (Some o) x = refl
 
-first_read : (p : Plan) (c : ℕ) (ss : List Sent) (x : Client Sent) → (flushed by_result (looked_for by_result (asks_in p c) ss x)).reading ≡ x.reading
-first_read p c [] x = refl
-first_read p c (s ∷ ss) x = closing (is_close (asked p c s.command))
-  where
-    closing : (b : Bool) → (flushed by_result (close_if b (record x { sent = ss }))).reading ≡ x.reading
-    closing true = refl
-    closing false = refl
-
 -- A client's read after an entry. -----------------------------------------------------------------------
 
 -- this holds of a read, where one is made
@@ -109,12 +101,8 @@ OnReading P seen begun (Some r) = P seen begun r
 none_made : (P : ℕ → ℕ → Reading → Type 0) (seen begun : ℕ) (r : Option Reading) → r ≡ None → OnReading P seen begun r
 none_made P seen begun r e = subst (OnReading P seen begun) (sym e) tt
 
--- what client c, standing so, prints with its own operation
-abbrev LinesBy : Plan → List Entry → ℕ → Client Sent → Op → List Line
-LinesBy p h c x o = own_lines (wording p c h) (sight_of p c h) x o ++ reply_lines (wording p c h) (ready_first by_result (acted_by (sight_of p c h) o x).sent)
-
 abbrev AfterOwn : (ℕ → ℕ → Reading → Type 0) → Plan → List Entry → ℕ → Client Sent → Op → ℕ → Type 0
-AfterOwn P p h c x o seen = OnReading P (seen_lines c (LinesBy p h c x o) seen) (flushed by_result (acted_by (sight_of p c h) o x)).begun (flushed by_result (acted_by (sight_of p c h) o x)).reading
+AfterOwn P p h c x o seen = OnReading P (seen_lines c (lines_by p h c x o) seen) (flushed by_result (acted_by (sight_of p c h) o x)).begun (flushed by_result (acted_by (sight_of p c h) o x)).reading
 
 -- what an operation needs of a client: its read is made or looked at now, or it begins something while none is made
 abbrev NeedsSo : (ℕ → ℕ → Reading → Type 0) → Plan → List Entry → ℕ → ℕ → Client Sent → Op → Type 0
@@ -124,9 +112,6 @@ NeedsSo P p h c seen x (op.Send d i n) = x.reading ≡ None
 NeedsSo P p h c seen x (op.SendFault d i) = x.reading ≡ None
 NeedsSo P p h c seen x (op.Local d i) = x.reading ≡ None
 NeedsSo P p h c seen x _ = Unit {0}
-
-cons_nil : (s : Sent) (ss : List Sent) → s ∷ ss ≡ [] → ⊥
-cons_nil s ss e = grind arith
 
 read_step : (P : ℕ → ℕ → Reading → Type 0) (p : Plan) (h : List Entry) (c seen begun : ℕ) (r : Reading) (ss : List Sent) → ss ≡ [] → P seen begun r → OnReading P (seen_lines c (reply_lines (wording p c h) (ready_first by_result ss)) seen) begun (Some r)
 read_step P p h c seen begun r ss e m = subst (λ z. P (seen_lines c (reply_lines (wording p c h) (ready_first by_result z)) seen) begun r) (sym e) m
@@ -139,7 +124,7 @@ own_step : (P : ℕ → ℕ → Reading → Type 0) (p : Plan) (h : List Entry) 
 own_step P p h c seen mark (op.Read d i s) rd ss b hd ow cl e a w m = read_step P p h c seen b (read_by (sight_of p c h) (asked p c i) s) ss a.0 a.1
 own_step P p h c seen mark (op.TakeRefused d n) rd ss b hd ow cl e a w m = none_made P _ _ _ (kept_read n (kept_outcome (sight_of p c h).head) (record { begun = b; sent = ss; held = hd; owed = ow; reading = rd; closed = cl }))
 own_step P p h c seen mark (op.TakeLost d n) rd ss b hd ow cl e a w m = none_made P _ _ _ (kept_read n (kept_outcome (sight_of p c h).head) (record { begun = b; sent = ss; held = hd; owed = ow; reading = rd; closed = cl }))
-own_step P p h c seen mark (op.LookOk d i n) None ss b hd ow cl e a w m = none_made P _ _ _ (first_read p c ss (record { begun = b; sent = ss; held = hd; owed = ow; reading = None; closed = cl }))
+own_step P p h c seen mark (op.LookOk d i n) None ss b hd ow cl e a w m = none_made P _ _ _ (looked_read p c ss (record { begun = b; sent = ss; held = hd; owed = ow; reading = None; closed = cl }))
 own_step P p h c seen mark (op.LookOk d i n) (Some r) [] b hd ow cl e a w m = look_step P p h c (record { begun = b; sent = []; held = hd; owed = ow; reading = Some r; closed = cl }) r seen refl (registers (asked p c (b + 1)) r.node) (a r refl)
 own_step P p h c seen mark (op.LookOk d i n) (Some r) (s ∷ ss) b hd ow cl e a w m = absurd (cons_nil s ss w.0)
 own_step P p h c seen mark (op.Send d i n) rd ss b hd ow cl e a w m = none_made P _ _ rd a
@@ -161,8 +146,8 @@ needs_so : (P : ℕ → ℕ → Reading → Type 0) (p : Plan) (c : ℕ) (h : Li
     → ((i m : ℕ) (r : Reading) → o ≡ op.LookOk c i m → (client_of p c h).reading ≡ Some r → registers (asked p c ((client_of p c h).begun + 1)) r.node ≡ true → P (seen_by c h) (client_of p c h).begun (record r { looked = true }))
     → ((i s : ℕ) → o ≡ op.Read c i s → P (seen_by c h) (client_of p c h).begun (read_by (sight_of p c h) (asked p c i) s))
     → NeedsSo P p h c (seen_by c h) (client_of p c h) o
-needs_so P p c h (op.Read d i s) v q a look read = let b = begins_to_read p c i h a.0 in (none_unanswered p c (client_of p c h) i v b.0 b.1, read i s (ap (λ z. op.Read z i s) (some_same d c q)))
-needs_so P p c h (op.LookOk d i m) v q a look read = λ r e f. look i m r (ap (λ z. op.LookOk z i m) (some_same d c q)) e f
+needs_so P p c h (op.Read d i s) v q a look read = let b = begins_to_read p c i h a.0 in (none_unanswered p c (client_of p c h) i v b.0 b.1, read i s (ap (λ z. op.Read z i s) (same_Some d c q)))
+needs_so P p c h (op.LookOk d i m) v q a look read = λ r e f. look i m r (ap (λ z. op.LookOk z i m) (same_Some d c q)) e f
 needs_so P p c h (op.Send d i n) v q a look read = a.0.begins.reads_nothing
 needs_so P p c h (op.SendFault d i) v q a look read = a.begins.reads_nothing
 needs_so P p c h (op.Local d i) v q a look read = a.0.reads_nothing
@@ -186,7 +171,7 @@ after_step P p c e h v l old needs = by_client (client_in e.op) refl
     by_client (Some s) q =
         subst (λ ls. After P p c e h ls (Some s)) (sym (next_is p h s e.op q))
         (cond_both (s == c) (flushed by_result (acted_by (sight_of p c h) e.op x)) x (λ y. OnReading P (seen_lines c (client_lines p s h e.op) (seen_by c h)) y.begun y.reading)
-        (λ f. let g = same_number s c f in subst (λ z. OnReading P (seen_lines c (client_lines p z h e.op) (seen_by c h)) (flushed by_result (acted_by (sight_of p c h) e.op x)).begun (flushed by_result (acted_by (sight_of p c h) e.op x)).reading) (sym g) (own (q ∙ ap Some g)))
+        (λ f. let g = eqb-true s c f in subst (λ z. OnReading P (seen_lines c (client_lines p z h e.op) (seen_by c h)) (flushed by_result (acted_by (sight_of p c h) e.op x)).begun (flushed by_result (acted_by (sight_of p c h) e.op x)).reading) (sym g) (own (q ∙ ap Some g)))
         (λ f. subst (λ n. OnReading P n x.begun x.reading) (sym (client_unseen p h c s e.op (seen_by c h) f)) old))
 
 made_on : (P : ℕ → ℕ → Reading → Type 0) (seen begun : ℕ) (o : Option Reading) → ((r : Reading) → o ≡ Some r → P seen begun r) → OnReading P seen begun o
@@ -210,7 +195,7 @@ made_at_read : (p : Plan) (c i s : ℕ) (e : Entry) (h : List Entry) → ReadsAr
 made_at_read p c i s e h v l q = let a = subst (OperationSays p c h) q (client_operations_say p c e h l (ap client_in q)) in made_stays p c e h (seen_by c h) (client_of p c h).begun (read_by (sight_of p c h) (asked p c i) s) l (made_now p c i s h v l.0 a.0 a.1)
 
 pub reads_show_the_tree : ReadsShowTheTree
-reads_show_the_tree p c [] r v l q = absurd (none_some r q)
+reads_show_the_tree p c [] r v l q = absurd (none-some r q)
 reads_show_the_tree p c (e ∷ h) r v l q =
     let old : (x : Reading) → (client_of p c h).reading ≡ Some x → IsMadeRead p c (e ∷ h) (seen_by c h) (client_of p c h).begun x = λ x f. made_stays p c e h (seen_by c h) (client_of p c h).begun x l (reads_show_the_tree p c h x v l.0 f) in
     reading_after p c e h (λ seen begun x. IsMadeRead p c (e ∷ h) seen begun x) v l old

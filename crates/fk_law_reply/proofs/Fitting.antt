@@ -1,5 +1,6 @@
 -- Each reply fits the tree.
 use Rattle.std.proofs.Common.{◌≡◌, ℕ, List, [], ◌∷◌, sym, ◌∙◌, ap, subst, Option, Some, None}
+use Rattle.std.proofs.lemmas.Bool.{le-leb}
 use Rattle.fk_tree.specs.Apply.{reply_of}
 use Rattle.fk_tree.specs.Ask.{ask}
 use Rattle.fk_tree.specs.Edit.{view_after}
@@ -33,7 +34,6 @@ use Rattle.fk_law_client.proofs.Printing.{replies_ordered}
 use Rattle.fk_law_reply.specs.Replying.{IsWriteSent, IsAppliedReply, ShowsOutcome, IsRefusedReply, ShowsOwnResult, IsOwnReply, IsAnswer, Why, AsApplied, AsRefused, AsOwn, AsAnswered, AsFailed, IsExplained, LineIsExplained, RepliesFitTheTree, AreExplained}
 use Rattle.fk_law_client.proofs.Lines.{each_mapped, each_onto}
 use Rattle.fk_law_reply.proofs.Explaining.{lines_are_explained}
-use Rattle.fk_law.proofs.Numbers.{tested}
 
 -- Writes. ----------------------------------------------------------------------------------------------
 
@@ -87,7 +87,7 @@ own_shows p h b c i s (Settled o) f e = absurd f
 
 own_reads : (h : List Entry) (b : List Line) (q : Query) (s : Shown) (r : Result) → ShowsOwnResult s b r → ReadShows h b q s
 own_reads h b q s (Plain cd) f = subst (ReadShows h b q) (sym f) tt
-own_reads h b q s (Expired at) f = subst (ReadShows h b q) (sym f.0) (tested at (greatest_tx (txs_among b)) f.1)
+own_reads h b q s (Expired at) f = subst (ReadShows h b q) (sym f.0) (le-leb at (greatest_tx (txs_among b)) f.1)
 own_reads h b q s Open f = absurd f
 own_reads h b q s (Settled o) f = absurd f
 
@@ -101,7 +101,7 @@ answered_shows : (p : Plan) (h : List Entry) (b : List Line) (s : Shown) (w : Wa
 answered_shows p h b s w l x =
     let v = view_after (up_to x.number (committed_of p h)) in
     subst (ReadShows h b x.query) (sym x.shows)
-    (answer_reads h b x.query x.number (ask v x.query) (ap (λ z. shown_answer x.number (ask z x.query)) (sym (published_tree_is_shown p x.number h l x.published)), tested x.number (greatest_tx (txs_among b)) x.printed))
+    (answer_reads h b x.query x.number (ask v x.query) (ap (λ z. shown_answer x.number (ask z x.query)) (sym (published_tree_is_shown p x.number h l x.published)), le-leb x.number (greatest_tx (txs_among b)) x.printed))
 
 -- Each reply. ------------------------------------------------------------------------------------------
 

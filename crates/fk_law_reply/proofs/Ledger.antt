@@ -1,8 +1,9 @@
 -- The numbers under which commands are sent, and what a client keeps of each.
 use Rattle.std.specs.Prelude.{◌==◌, ◌&&◌, ◌||◌, if◌then◌else◌}
 use Rattle.std.proofs.Common.{◌⊎◌, inl, inr, ◌≡◌, ℕ, ◌+◌, ◌≤◌, ◌++◌, Bool, true, false, List, [], ◌∷◌, refl, sym, ◌∙◌, ap, subst, arith, Option, Some, None}
-use Rattle.std.proofs.lemmas.Bool.{false≢true, cond_both}
+use Rattle.std.proofs.lemmas.Bool.{false≢true, cond_both, or_right, and_parts, eqb-true}
 use Rattle.std.proofs.lemmas.Bool.Decides.{nat_tests}
+use Rattle.std.proofs.lemmas.Option.{same_Some}
 use Rattle.fk_base.specs.declared.code.Code.TheVariants as code
 use Rattle.fk_print.specs.declared.entry.Entry.{Entry}
 use Rattle.fk_print.specs.declared.op.Op.{Op}
@@ -23,10 +24,8 @@ use Rattle.fk_law_client.specs.Lines.{IsAmong, kept_after}
 use Rattle.fk_law_client.specs.Tracking.{AreTracked, IsTrueResult, later}
 use Rattle.fk_law_client.specs.Kept.{KeptFrom, Before, Told, Begun, begun_by}
 use Rattle.fk_law_client.proofs.Kept.{client_after, among_unready, kept_commands_have_their_source}
-use Rattle.fk_law_client.proofs.Messages.{same_number, some_same}
 use Rattle.fk_law_client.proofs.Operating.{client_operations_say}
 use Rattle.fk_law_reply.specs.Ledger.{BegunNeverFalls, OnlyBegunWereSent, SentNumberNeverChanges, HasOwnCause, IsEntered, IsMessage, KeptCommandsAreEntered, CommandsOfAnOperationAreEntered, message_number}
-use Rattle.fk_law_tree.proofs.Members.{or_right}
 use Rattle.fk_law.proofs.Numbers.{itself}
 
 -- How many commands are begun. -------------------------------------------------------------------------
@@ -81,7 +80,7 @@ own_begun p c e h o q f = subst (λ z. (client_by (sight_of p c h) (client_in z)
 -- What is sent. ----------------------------------------------------------------------------------------
 
 sent_other : (c i : ℕ) (o : Op) → ((j k : ℕ) → o ≡ op.Send c j k → j ≡ i → ⊥) → sent_as_in c i o ≡ None
-sent_other c i (op.Send d j k) f = cond_both (d == c) (if j == i then Some k else None) None (λ z. z ≡ None) (λ e. cond_both (j == i) (Some k) None (λ z. z ≡ None) (λ g. absurd (f j k (ap (λ z. op.Send z j k) (same_number d c e)) (same_number j i g))) (λ _. refl)) (λ _. refl)
+sent_other c i (op.Send d j k) f = cond_both (d == c) (if j == i then Some k else None) None (λ z. z ≡ None) (λ e. cond_both (j == i) (Some k) None (λ z. z ≡ None) (λ g. absurd (f j k (ap (λ z. op.Send z j k) (eqb-true d c e)) (eqb-true j i g))) (λ _. refl)) (λ _. refl)
 sent_other c i o f = refl
 
 sends_next : (p : Plan) (c j k : ℕ) (e : Entry) (h : List Entry) → IsHistory p (e ∷ h) → e.op ≡ op.Send c j k → j ≡ (client_of p c h).begun + 1
@@ -103,14 +102,10 @@ sent_number_never_changes p c i h (e ∷ more) l b = sent_stays p c i e (more ++
 
 -- What the client itself answers. ----------------------------------------------------------------------
 
-both : (a b : Bool) → (a && b) ≡ true → (a ≡ true) × (b ≡ true)
-both true b e = (refl, e)
-both false b e = absurd (false≢true e)
-
 -- what was seen at another command
 seen_other : (c i : ℕ) (h : List Entry) (o : Op) → ((j k : ℕ) → o ≡ op.Send c j k → j ≡ i → ⊥) → ((j : ℕ) → o ≡ op.Local c j → j ≡ i → ⊥) → seen_at_in c i h o ≡ None
-seen_other c i h (op.Send d j k) f g = cond_both ((d == c) && (j == i)) (Some (seen_by c h)) None (λ z. z ≡ None) (λ e. let w = both (d == c) (j == i) e in absurd (f j k (ap (λ z. op.Send z j k) (same_number d c w.0)) (same_number j i w.1))) (λ _. refl)
-seen_other c i h (op.Local d j) f g = cond_both ((d == c) && (j == i)) (Some (seen_by c h)) None (λ z. z ≡ None) (λ e. let w = both (d == c) (j == i) e in absurd (g j (ap (λ z. op.Local z j) (same_number d c w.0)) (same_number j i w.1))) (λ _. refl)
+seen_other c i h (op.Send d j k) f g = cond_both ((d == c) && (j == i)) (Some (seen_by c h)) None (λ z. z ≡ None) (λ e. let w = and_parts (d == c) (j == i) e in absurd (f j k (ap (λ z. op.Send z j k) (eqb-true d c w.0)) (eqb-true j i w.1))) (λ _. refl)
+seen_other c i h (op.Local d j) f g = cond_both ((d == c) && (j == i)) (Some (seen_by c h)) None (λ z. z ≡ None) (λ e. let w = and_parts (d == c) (j == i) e in absurd (g j (ap (λ z. op.Local z j) (eqb-true d c w.0)) (eqb-true j i w.1))) (λ _. refl)
 seen_other c i h o f g = refl
 
 refuses_next : (p : Plan) (c j : ℕ) (e : Entry) (h : List Entry) → IsHistory p (e ∷ h) → e.op ≡ op.Local c j → j ≡ (client_of p c h).begun + 1
@@ -197,29 +192,29 @@ message_now p c i k e h b q n = record {
     origin = rw (q, n) (grind (arith, nat_tests))
 
 begun_entered : (p : Plan) (c : ℕ) (e : Entry) (h : List Entry) (o : Op) (s : Sent) → IsHistory p (e ∷ h) → e.op ≡ o → client_in o ≡ Some c → OperationSays p c h o → begun_by p c (seen_by c h) o ≡ Some s → IsEntered p c (client_of p c (e ∷ h)).begun (e ∷ h) s
-begun_entered p c e h (op.Send d i k) s l q f a g = subst (IsEntered p c (client_of p c (e ∷ h)).begun (e ∷ h)) (some_same (record { command = i; k = k; result = Open }) s g) (record {
+begun_entered p c e h (op.Send d i k) s l q f a g = subst (IsEntered p c (client_of p c (e ∷ h)).begun (e ∷ h)) (same_Some (record { command = i; k = k; result = Open }) s g) (record {
   is_begun = (let n = own_begun p c e h (op.Send d i k) q f in omega (arith, n));
   ask = a.0.begins.ask;
   is_asked = a.0.begins.is_asked;
-  number = sent_now p c i k e h (q ∙ ap (λ z. op.Send z i k) (some_same d c f)) a.1;
-  message = inr (message_now p c i k e h a.0 (q ∙ ap (λ z. op.Send z i k) (some_same d c f)) a.1);
+  number = sent_now p c i k e h (q ∙ ap (λ z. op.Send z i k) (same_Some d c f)) a.1;
+  message = inr (message_now p c i k e h a.0 (q ∙ ap (λ z. op.Send z i k) (same_Some d c f)) a.1);
   cause = tt;
 })
-begun_entered p c e h (op.SendFault d i) s l q f a g = subst (IsEntered p c (client_of p c (e ∷ h)).begun (e ∷ h)) (some_same (record { command = i; k = 0; result = Plain code.ConnectionLoss }) s g) (record {
+begun_entered p c e h (op.SendFault d i) s l q f a g = subst (IsEntered p c (client_of p c (e ∷ h)).begun (e ∷ h)) (same_Some (record { command = i; k = 0; result = Plain code.ConnectionLoss }) s g) (record {
   is_begun = (let n = own_begun p c e h (op.SendFault d i) q f in omega (arith, n));
   ask = a.begins.ask;
   is_asked = a.begins.is_asked;
   number = unsent_now p c i e h (op.SendFault d i) l q a.begins.next refl;
   message = inl refl;
-  cause = failed_now c i e h (q ∙ ap (λ z. op.SendFault z i) (some_same d c f));
+  cause = failed_now c i e h (q ∙ ap (λ z. op.SendFault z i) (same_Some d c f));
 })
-begun_entered p c e h (op.Local d i) s l q f a g = subst (IsEntered p c (client_of p c (e ∷ h)).begun (e ∷ h)) (some_same (record { command = i; k = 0; result = local_result (is_unfit (asked p c i)) (seen_by c h) }) s g) (record {
+begun_entered p c e h (op.Local d i) s l q f a g = subst (IsEntered p c (client_of p c (e ∷ h)).begun (e ∷ h)) (same_Some (record { command = i; k = 0; result = local_result (is_unfit (asked p c i)) (seen_by c h) }) s g) (record {
   is_begun = (let n = own_begun p c e h (op.Local d i) q f in omega (arith, n));
   ask = a.0.ask;
   is_asked = a.0.is_asked;
   number = unsent_now p c i e h (op.Local d i) l q a.0.next refl;
   message = inl refl;
-  cause = local_cause c i (e ∷ h) a.0.ask (seen_by c h) (is_unfit (asked p c i)) (ap is_unfit (sym a.0.is_asked)) (seen_now c i e h (q ∙ ap (λ z. op.Local z i) (some_same d c f)));
+  cause = local_cause c i (e ∷ h) a.0.ask (seen_by c h) (is_unfit (asked p c i)) (ap is_unfit (sym a.0.is_asked)) (seen_now c i e h (q ∙ ap (λ z. op.Local z i) (same_Some d c f)));
 })
 begun_entered p c e h o s l q f a g = absurd (grind arith)
 

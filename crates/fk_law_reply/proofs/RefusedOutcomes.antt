@@ -3,6 +3,7 @@ use Rattle.std.specs.Prelude.{◌==◌, ◌&&◌}
 use Rattle.std.proofs.Common.{◌≡◌, ℕ, ◌+◌, ◌≤◌, ◌++◌, Bool, true, false, List, [], ◌∷◌, max, refl, sym, ◌∙◌, ap, subst, arith, Option, Some, None}
 use Rattle.std.proofs.lemmas.Bool.{cond_both}
 use Rattle.std.proofs.lemmas.Bool.Decides.{nat_tests}
+use Rattle.std.proofs.lemmas.Option.{same_Some, none-some}
 use Rattle.fk_base.specs.Path.{PathNames}
 use Rattle.fk_base.specs.declared.code.Code.{Code}
 use Rattle.fk_tree.specs.Check.{Refusal, check}
@@ -15,7 +16,7 @@ use Rattle.fk_spec.specs.Plan.{Plan}
 use Rattle.fk_spec.specs.Start.{Task, Follows, task_of, session_followed, request_of, seen_from, seen_with, sends_of}
 use Rattle.fk_spec.specs.Settling.{Outcome, Refused, Settling, last_of_session, outcome_here, outcome_of, settled_in, settled_of, settling}
 use Rattle.fk_spec.specs.Stored.{committed_of, owned_after, up_to}
-use Rattle.fk_spec.specs.Follower.{Follower, begin, decided, greatest_last, next_stage, next_with, refusal_number, to_begin, to_lock, view_of, with_granted}
+use Rattle.fk_spec.specs.Follower.{Follower, decided, greatest_last, next_stage, next_with, to_begin, to_lock, view_of, with_granted}
 use Rattle.fk_spec.specs.Follower as follower
 use Rattle.fk_spec.specs.Function.{Following, place_of}
 use Rattle.fk_spec.specs.Next.{IsHistory}
@@ -29,7 +30,7 @@ use Rattle.fk_law.proofs.Sending.{origin_stays, request_never_changes, sent_has_
 use Rattle.fk_law.proofs.Settled.{reached}
 use Rattle.fk_law.proofs.Standing.{OnStanding, standing_step}
 use Rattle.fk_law.proofs.Starting.{follower_task}
-use Rattle.fk_law_client.proofs.Messages.{none_some, some_same}
+use Rattle.fk_law.proofs.Rising.{history_before}
 use Rattle.fk_law_client.proofs.Pushed.{refusal_holds}
 use Rattle.fk_law_reply.specs.RefusedOutcomes.{IsRefusedBy, RefusedWasRefused, RefusedHoldsAtItsNumber, RefusedBeyondSeen}
 
@@ -54,12 +55,12 @@ refusal_of c place at code h (op.RefuseOk n cd u v) e = by_session (session_foll
     same d f = grind arith
 
     by_session : (s : Option ℕ) → session_followed (task_of n h) ≡ s → settling s (Refused cd u v) ≡ Some (record { session = c; outcome = Refused code place at }) → IsRefusal h c place at code (op.RefuseOk n cd u v)
-    by_session None f g = absurd (none_some _ g)
+    by_session None f g = absurd (none-some _ g)
     by_session (Some d) f g = let w = same d g in record { function = n; refuses = w.1; follows = f ∙ ap Some w.0 }
 refusal_of c place at code h o e = absurd (grind arith)
 
 its_session : (c : ℕ) (f : Follower) (t : Option Task) → t ≡ Some (Follows f.session f.k) → session_followed t ≡ Some c → f.session ≡ c
-its_session c f t e g = some_same f.session c (sym (ap session_followed e) ∙ g)
+its_session c f t e g = same_Some f.session c (sym (ap session_followed e) ∙ g)
 
 refused_now : (p : Plan) (c k place at : ℕ) (code : Code) (e : Entry) (h : List Entry) → IsHistory p (e ∷ h) → IsRefusal h c place at code e.op → settled_of c h + 1 ≡ k → IsRefusedBy c k place at code p (e ∷ h)
 refused_now p c k place at code e h l x n =
@@ -95,12 +96,8 @@ refused_was_refused p c k place at code (e ∷ h) l a = refused_step p c k place
 
 -- The check. -------------------------------------------------------------------------------------------
 
-tail_history : (p : Plan) (h more : List Entry) → IsHistory p (more ++ h) → IsHistory p h
-tail_history p h [] l = l
-tail_history p h (e ∷ more) l = tail_history p h more l.0
-
 one_request : (r s : Request) (o : Option Request) → o ≡ Some r → o ≡ Some s → r ≡ s
-one_request r s o e f = some_same r s (sym e ∙ f)
+one_request r s o e f = same_Some r s (sym e ∙ f)
 
 pub refused_holds_at_its_number : RefusedHoldsAtItsNumber
 refused_holds_at_its_number p c k place at code h r v l a q =
@@ -115,7 +112,7 @@ refused_holds_at_its_number p c k place at code h r v l a q =
     whole = subst (IsHistory p) x.whole l
 
     below : IsHistory p (x.entry ∷ x.before)
-    below = tail_history p (x.entry ∷ x.before) x.after whole
+    below = history_before p (x.entry ∷ x.before) x.after whole
 
     there : (s : Request) × (request_of p x.follower.session x.follower.k x.before ≡ Some s)
     there = let b = reached p x.function x.follower.session x.follower.k x.before below.0 (follower_task p x.function x.before x.follower below.0 x.stands) in sent_has_a_request p x.follower.session x.follower.k x.before below.0 b.0 b.2
@@ -206,7 +203,7 @@ refused_beyond_seen p c k place at code h l a =
     whole = subst (IsHistory p) x.whole l
 
     below : IsHistory p (x.entry ∷ x.before)
-    below = tail_history p (x.entry ∷ x.before) x.after whole
+    below = history_before p (x.entry ∷ x.before) x.after whole
 
     d : IsDue p x.before (op.RefuseOk x.function code place at)
     d = subst (IsDue p x.before) x.refuses (due p x.entry x.before below)

@@ -7,10 +7,10 @@ use Rattle.fk_base.specs.Path.{Name, PathNames, parent, same_path, is_root}
 use Rattle.fk_tree.specs.Sorted.{has_name, add_name, drop_name}
 use Rattle.fk_tree.specs.Tree.{Bare, Nodes, children, with_names, map_some, node_view, up}
 use Rattle.fk_tree.specs.View.{View}
-use Rattle.fk_tree.specs.Edit.{edit, edited, owner_for, create_edits, set_edits, delete_edits, deletes_edits, part_edits, parts_edits, effects_of}
+use Rattle.fk_tree.specs.Edit.{edit, edited, owner_for, create_edits, set_edits, delete_edits, part_edits, parts_edits, effects_of}
 use Rattle.fk_tree.specs.Fill.{final_path, made_of, fill_name, fill_made, fill_gone, fill_part, fill_parts, after_part}
 use Rattle.fk_tree.specs.Check.{check_part, check_parts, check_open, has_names}
-use Rattle.fk_tree.specs.Apply.{create_node, set_node, delete_node, delete_nodes, apply_part, apply_parts, apply_nodes}
+use Rattle.fk_tree.specs.Apply.{create_node, set_node, delete_node, apply_part, apply_parts, apply_nodes}
 use Rattle.fk_tree.specs.declared.applied.Applied.{Applied}
 use Rattle.fk_tree.specs.declared.edit.Edit.{Edit}
 use Rattle.fk_tree.specs.declared.edit.What.{What}
@@ -22,15 +22,15 @@ use Rattle.fk_tree.specs.declared.request.Request.{Request}
 use Rattle.fk_tree.specs.declared.request.Request.TheVariants as request
 use Rattle.fk_tree.proofs.Views.{has_children, set_view, create_view}
 use Rattle.fk_tree.proofs.Deletes.{delete_view}
+use Rattle.fk_tree.proofs.Alike.{plain}
+use Rattle.fk_tree.proofs.Keeping.{edited_both}
+use Rattle.fk_tree.proofs.Passing.{some_view, placed_none}
+use Rattle.fk_tree.proofs.Standing.{deletes_view}
 use Rattle.fk_law_tree.specs.WellFormed.{is_unowned}
-use Rattle.fk_law_tree.proofs.Passing.{final_parent, final_below_root, placed_none, first_passes, others_pass, CreatePasses, passed_create, DeletePasses, passed_delete}
+use Rattle.fk_law_tree.proofs.Passing.{final_parent, final_below_root, first_passes, others_pass, CreatePasses, passed_create, DeletePasses, passed_delete}
 use Rattle.fk_law_tree.proofs.Whole.{is_free, IsWhole, has_parents, set_keeps, create_keeps, IsLeaf, AllLeaves, delete_keeps, deletes_keep, owned_leaves}
-use Rattle.fk_law_tree.proofs.Members.{edited_append}
 
 -- A NODE WITHOUT ITS TIMES
--- neither a check nor what is filled reads a transaction or a moment of a node
-abbrev erased : Node → Node
-erased n = record n { czxid = 0; mzxid = 0; pzxid = 0; ctime = 0; mtime = 0 }
 
 -- a child came, and a child went
 abbrev came : Name → ℕ → Node → Node
@@ -39,7 +39,7 @@ came x tx n = record n { cversion = up n.cversion; made = up n.made; pzxid = tx;
 abbrev went : Name → ℕ → Node → Node
 went x tx n = record n { cversion = up n.cversion; pzxid = tx; names = drop_name x n.names }
 
-erased_edit : (tx moment : ℕ) (w : What) (o : Option Node) → map_some erased (edit tx moment w o) ≡ edit 0 0 w (map_some erased o)
+erased_edit : (tx moment : ℕ) (w : What) (o : Option Node) → map_some plain (edit tx moment w o) ≡ edit 0 0 w (map_some plain o)
 erased_edit tx moment (what.Make bytes owner) o = refl
 erased_edit tx moment (what.Replace bytes) None = refl
 erased_edit tx moment (what.Replace bytes) (Some n) = refl
@@ -47,47 +47,47 @@ erased_edit tx moment what.Remove o = refl
 erased_edit tx moment (what.AddName x) None = refl
 erased_edit tx moment (what.AddName x) (Some n) = step (has_name x n.names)
   where
-    step : (b : Bool) → Some (erased (cond b n (came x tx n))) ≡ Some (cond b (erased n) (came x 0 (erased n)))
+    step : (b : Bool) → Some (plain (cond b n (came x tx n))) ≡ Some (cond b (plain n) (came x 0 (plain n)))
     step true = refl
     step false = refl
 erased_edit tx moment (what.DropName x) None = refl
 erased_edit tx moment (what.DropName x) (Some n) = step (has_name x n.names)
   where
-    step : (b : Bool) → Some (erased (cond b (went x tx n) n)) ≡ Some (cond b (went x 0 (erased n)) (erased n))
+    step : (b : Bool) → Some (plain (cond b (went x tx n) n)) ≡ Some (cond b (went x 0 (plain n)) (plain n))
     step true = refl
     step false = refl
 
-erased_edited : (tx moment : ℕ) (p : PathNames) (es : List Edit) (o : Option Node) → map_some erased (edited tx moment p es o) ≡ edited 0 0 p es (map_some erased o)
+erased_edited : (tx moment : ℕ) (p : PathNames) (es : List Edit) (o : Option Node) → map_some plain (edited tx moment p es o) ≡ edited 0 0 p es (map_some plain o)
 erased_edited tx moment p [] o = refl
 erased_edited tx moment p (e ∷ es) o = erased_edited tx moment p es (cond (same_path p e.path) (edit tx moment e.what o) o) ∙ ap (edited 0 0 p es) (step (same_path p e.path))
   where
-    step : (b : Bool) → map_some erased (cond b (edit tx moment e.what o) o) ≡ cond b (edit 0 0 e.what (map_some erased o)) (map_some erased o)
+    step : (b : Bool) → map_some plain (cond b (edit tx moment e.what o) o) ≡ cond b (edit 0 0 e.what (map_some plain o)) (map_some plain o)
     step true = erased_edit tx moment e.what o
     step false = refl
 
 -- the nodes of a view are those of a tree but for their times
 abbrev IsLike : View → Nodes → Type 0
-IsLike v t = (p : PathNames) → map_some erased (v.node p) ≡ map_some erased (node_view t p)
+IsLike v t = (p : PathNames) → map_some plain (v.node p) ≡ map_some plain (node_view t p)
 
 like_after : (v : View) (t u : Nodes) (session tx moment : ℕ) (x : Part) → IsLike v t → ((p : PathNames) → node_view u p ≡ edited tx moment p (part_edits session x (fill_part v x)) (node_view t p)) → IsLike (after_part v session x) u
 like_after v t u session tx moment x l h p =
     erased_edited 0 0 p (part_edits session x (fill_part v x)) (v.node p)
     ∙ ap (edited 0 0 p (part_edits session x (fill_part v x))) (l p)
     ∙ sym (erased_edited tx moment p (part_edits session x (fill_part v x)) (node_view t p))
-    ∙ sym (ap (map_some erased) (h p))
+    ∙ sym (ap (map_some plain) (h p))
 
 -- WHAT IS ALIKE
-like_some : (o x : Option Node) → map_some erased o ≡ map_some erased x → is_some x ≡ is_some o
+like_some : (o x : Option Node) → map_some plain o ≡ map_some plain x → is_some x ≡ is_some o
 like_some o x e = same x ∙ sym (ap is_some e) ∙ sym (same o)
   where
-    same : (o : Option Node) → is_some o ≡ is_some (map_some erased o)
+    same : (o : Option Node) → is_some o ≡ is_some (map_some plain o)
     same None = refl
     same (Some n) = refl
 
-like_unowned : (o x : Option Node) → map_some erased o ≡ map_some erased x → is_unowned x ≡ is_unowned o
+like_unowned : (o x : Option Node) → map_some plain o ≡ map_some plain x → is_unowned x ≡ is_unowned o
 like_unowned o x e = same x ∙ sym (ap is_unowned e) ∙ sym (same o)
   where
-    same : (o : Option Node) → is_unowned o ≡ is_unowned (map_some erased o)
+    same : (o : Option Node) → is_unowned o ≡ is_unowned (map_some plain o)
     same None = refl
     same (Some n) = refl
 
@@ -96,19 +96,12 @@ abbrev is_childless : Option Node → Bool
 is_childless None = false
 is_childless (Some n) = not (has_names n.names)
 
-like_childless : (o x : Option Node) → map_some erased o ≡ map_some erased x → is_childless x ≡ is_childless o
+like_childless : (o x : Option Node) → map_some plain o ≡ map_some plain x → is_childless x ≡ is_childless o
 like_childless o x e = same x ∙ sym (ap is_childless e) ∙ sym (same o)
   where
-    same : (o : Option Node) → is_childless o ≡ is_childless (map_some erased o)
+    same : (o : Option Node) → is_childless o ≡ is_childless (map_some plain o)
     same None = refl
     same (Some n) = refl
-
-pub some_view : (t : Nodes) (p : PathNames) → is_some (node_view t p) ≡ is_some (get t p)
-some_view t p = step (children t p) (get t p)
-  where
-    step : (ns : List Name) (o : Option Bare) → is_some (map_some (with_names ns) o) ≡ is_some o
-    step ns None = refl
-    step ns (Some b) = refl
 
 pub free_view : (t : Nodes) (p : PathNames) → is_unowned (node_view t p) ≡ is_free (get t p)
 free_view t p = step (children t p) (get t p)
@@ -166,12 +159,6 @@ delete_applied : (t : Nodes) (p : PathNames) (tx moment : ℕ) → IsWhole t →
 delete_applied t p tx moment w l = record { node = λ q. delete_view t p q tx moment; whole = delete_keeps t p tx w l }
 
 -- CLOSE
-deletes_view : (t : Nodes) (ps : List PathNames) (q : PathNames) (tx moment : ℕ) → node_view (delete_nodes ps tx t) q ≡ edited tx moment q (deletes_edits ps) (node_view t q)
-deletes_view t [] q tx moment = refl
-deletes_view t (p ∷ ps) q tx moment =
-    deletes_view (delete_node p tx t) ps q tx moment
-    ∙ ap (edited tx moment q (deletes_edits ps)) (delete_view t p q tx moment)
-    ∙ sym (edited_append tx moment q (delete_edits p) (deletes_edits ps) (node_view t q))
 
 -- PARTS
 part_applied : (v : View) (t : Nodes) (a : Applied) (x : Part) → IsLike v t → IsWhole t → check_part v x ≡ None → IsApplied t (apply_part a x (fill_part v x) t) a.tx a.moment (part_edits a.session x (fill_part v x))
@@ -188,7 +175,7 @@ parts_applied v t a place (x ∷ xs) l w e =
     parts_applied (after_part v a.session x) (apply_part a x (fill_part v x) t) a (suc place) xs (like_after v t (apply_part a x (fill_part v x) t) a.session a.tx a.moment x l first.node) first.whole (others_pass v a.session place x xs e) in
     record {
       node = λ q. rest.node q ∙ ap (edited a.tx a.moment q (parts_edits a.session xs (fill_parts (after_part v a.session x) a.session xs))) (first.node q)
-          ∙ sym (edited_append a.tx a.moment q (part_edits a.session x (fill_part v x)) (parts_edits a.session xs (fill_parts (after_part v a.session x) a.session xs)) (node_view t q));
+          ∙ sym (edited_both a.tx a.moment q (part_edits a.session x (fill_part v x)) (parts_edits a.session xs (fill_parts (after_part v a.session x) a.session xs)) (node_view t q));
       whole = rest.whole;
     }
 

@@ -1,6 +1,6 @@
 -- What counts at a path.
-use Rattle.std.proofs.Common.{◌≡◌, ℕ, Bool, true, false, cond, ◌||◌, List, [], ◌∷◌, Option, refl, sym, ◌∙◌, ap, ◌≢◌, arith}
-use Rattle.std.proofs.lemmas.Bool.{false≢true}
+use Rattle.std.proofs.Common.{◌≡◌, ℕ, true, false, cond, ◌||◌, List, [], ◌∷◌, Option, refl, sym, ◌∙◌, ap, ◌≢◌, arith}
+use Rattle.std.proofs.lemmas.Bool.{false≢true, or_parts}
 use Rattle.std.proofs.lemmas.Bool.Decides.{nat_tests}
 use Rattle.fk_base.specs.Path.{PathNames, same_path}
 use Rattle.fk_tree.specs.Sorted.{has_path}
@@ -9,18 +9,10 @@ use Rattle.fk_tree.specs.Touch.{edit_paths, edited_paths, edits_at}
 use Rattle.fk_tree.specs.declared.edit.Edit.{Edit}
 use Rattle.fk_tree.specs.declared.node.Node.{Node}
 use Rattle.fk_tree.specs.View.{start_view}
+use Rattle.fk_tree.specs.Rows.{is_of}
 use Rattle.fk_tree.proofs.Order.{by_test}
 use Rattle.fk_law_tree.specs.Editors.{editors, OnlyItsEditsCount, UneditedStays, OnlyEditorsCount, SameEditors, is_edited, OwnedWasEdited}
-use Rattle.fk_law_tree.specs.Owners.{is_owned}
 use Rattle.fk_law_tree.proofs.Lists.{ordered_has}
-
-or_left : (a b : Bool) → (a || b) ≡ false → a ≡ false
-or_left true b e = absurd (false≢true (sym e))
-or_left false b e = refl
-
-or_right : (a b : Bool) → (a || b) ≡ false → b ≡ false
-or_right true b e = absurd (false≢true (sym e))
-or_right false b e = e
 
 pub only_its_edits : OnlyItsEditsCount
 only_its_edits tx moment p [] o = refl
@@ -32,7 +24,7 @@ only_its_edits tx moment p (e ∷ es) o =
 -- edits of other paths change nothing
 unedited : (tx moment : ℕ) (p : PathNames) (es : List Edit) (o : Option Node) → has_path p (edit_paths es) ≡ false → edited tx moment p es o ≡ o
 unedited tx moment p [] o h = refl
-unedited tx moment p (e ∷ es) o h = let f : same_path p e.path ≡ false = or_left _ _ h in rw f (unedited tx moment p es o (or_right (same_path p e.path) _ h))
+unedited tx moment p (e ∷ es) o h = let f : same_path p e.path ≡ false = (or_parts _ _ h).0 in rw f (unedited tx moment p es o (or_parts (same_path p e.path) _ h).1)
 
 pub unedited_stays : UneditedStays
 unedited_stays v a p h = unedited a.tx a.moment p (effects a) (v.node p) (sym (ordered_has (edit_paths (effects a)) p) ∙ h)
@@ -47,7 +39,7 @@ only_editors (a ∷ done) p =
 pub same_editors : SameEditors
 same_editors done other p e = only_editors done p ∙ ap (λ ds. (view_after ds).node p) e ∙ sym (only_editors other p)
 
-start_unowned : (session : ℕ) (p : PathNames) → session ≢ 0 → is_owned session (start_view.node p) ≡ true → ⊥
+start_unowned : (session : ℕ) (p : PathNames) → session ≢ 0 → is_of session (start_view.node p) ≡ true → ⊥
 start_unowned session [] z e = grind (arith, nat_tests)
 start_unowned session (n ∷ p) z e = false≢true e
 
@@ -55,4 +47,4 @@ pub owned_was_edited : OwnedWasEdited
 owned_was_edited [] session p z e = absurd (start_unowned session p z e)
 owned_was_edited (a ∷ done) session p z e =
     by_test (has_path p (edited_paths a)) (λ c. (c || is_edited p done) ≡ true) (λ _. refl)
-    (λ h. owned_was_edited done session p z (ap (is_owned session) (sym (unedited_stays (view_after done) a p h)) ∙ e))
+    (λ h. owned_was_edited done session p z (ap (is_of session) (sym (unedited_stays (view_after done) a p h)) ∙ e))

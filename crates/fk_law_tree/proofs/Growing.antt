@@ -1,12 +1,12 @@
 -- Trees after applied requests show what their edits show.
 use Rattle.std.proofs.Common.{◌≡◌, ℕ, Bool, true, false, cond, eqb, ◌||◌, List, [], ◌∷◌, ◌++◌, Option, Some, None, refl, sym, ◌∙◌, ap, subst, arith}
 use Rattle.std.specs.Prelude.{is_some}
-use Rattle.std.specs.FinMap.{get, get-empty, get-insert, empty}
+use Rattle.std.specs.FinMap.{get}
 use Rattle.std.proofs.lemmas.Bool.{false≢true}
 use Rattle.std.proofs.lemmas.Bool.Decides.{nat_tests}
 use Rattle.fk_base.specs.Path.{Name, PathNames, path_cmp, parent, is_root, same_path}
 use Rattle.fk_tree.specs.Sorted.{has_name, has_path, rises}
-use Rattle.fk_tree.specs.Tree.{Bare, Nodes, Tree, children, with_names, map_some, node_view, root_node, start_tree}
+use Rattle.fk_tree.specs.Tree.{Bare, Nodes, Tree, children, with_names, map_some, node_view, start_tree}
 use Rattle.fk_tree.specs.View.{look, is_in, start_view, View}
 use Rattle.fk_tree.specs.Edit.{after, effects, closes}
 use Rattle.fk_tree.specs.Fill.{final_path, fill_gone, owned}
@@ -16,18 +16,20 @@ use Rattle.fk_tree.specs.declared.node.Node.{Node}
 use Rattle.fk_tree.specs.declared.request.Request.{Request}
 use Rattle.fk_tree.specs.declared.request.Request.TheVariants as request
 use Rattle.fk_tree.specs.Locks.{lock_paths}
-use Rattle.fk_tree.proofs.Order.{by_test, path_total, path_exact, child_not_root, same_path_is, same_name_self}
+use Rattle.fk_tree.proofs.Order.{by_test, path_total, path_exact, same_path_is, same_name_self}
 use Rattle.fk_tree.proofs.Rising.{same_rising}
 use Rattle.fk_tree.proofs.Views.{has_children, children_of}
+use Rattle.fk_tree.proofs.Passing.{some_view, passed_open}
+use Rattle.fk_tree.proofs.Starting.{start_get, start_child}
+use Rattle.fk_tree.proofs.Owning.{owned_has}
 use Rattle.fk_law_tree.specs.Fitting.{GoneIs, Fits, FitsWhatIsShown}
 use Rattle.fk_law_tree.specs.Following.{AppliedByPath, AppliedIsAfter, tree_after, IsShown, TreesAreViews, ViewsAreTrees}
 use Rattle.fk_law_tree.specs.Locking.{owned_final, unlocked}
 use Rattle.fk_law_tree.specs.WellFormed.{is_unowned, IsWellFormed, KeepsWellFormed, OwnersHaveNoChild, UnlockedIsMissing, LockedIsEnough}
 use Rattle.fk_law_tree.specs.Reading.{AgreeOn, reads}
-use Rattle.fk_law_tree.proofs.Applying.{some_view, free_view, IsApplied, request_applied}
+use Rattle.fk_law_tree.proofs.Applying.{free_view, IsApplied, request_applied}
 use Rattle.fk_law_tree.proofs.Counting.{only_its_edits}
-use Rattle.fk_law_tree.proofs.Owning.{owned_has, owned_rises}
-use Rattle.fk_law_tree.proofs.Passing.{passed_open}
+use Rattle.fk_law_tree.proofs.Owning.{owned_rises}
 use Rattle.fk_law_tree.proofs.Whole.{is_free, IsWhole}
 use Rattle.fk_law_tree.proofs.Reading.{at_head, check_reads, fill_reads}
 use Rattle.fk_law_tree.proofs.Holding.{reads_are_locked}
@@ -175,11 +177,6 @@ locked_is_enough t v owned session r w c a n =
     (check_reads v (look t) session r c same, fill_reads v (look t) session r same)
 
 -- THE START
-start_get : (q : PathNames) → get start_tree.nodes q ≡ cond (same_path q []) (Some root_node) None
-start_get q = get-insert path_total empty [] root_node q ∙ ap (cond (same_path q []) (Some root_node)) (get-empty path_cmp q)
-
-start_child : (q : PathNames) (n : Name) → is_some (get start_tree.nodes (q ++ n ∷ [])) ≡ false
-start_child q n = rw (start_get (q ++ n ∷ []), child_not_root q n) refl
 
 start_node : (q : PathNames) → node_view start_tree.nodes q ≡ start_view.node q
 start_node [] = rw (children_of start_tree.nodes [] [] refl (start_child []), start_get []) refl

@@ -1,6 +1,7 @@
 -- What is read and edited is locked, and what is read is edited.
+use Rattle.std.specs.Cmp.{both_ways}
 use Rattle.std.proofs.Common.{◌≡◌, ℕ, Bool, true, false, cond, eqb, ◌||◌, List, [], ◌∷◌, ◌++◌, Option, Some, None, refl, sym, ◌∙◌, ap, subst}
-use Rattle.std.proofs.lemmas.Bool.{false≢true}
+use Rattle.std.proofs.lemmas.Bool.{false≢true, or_right}
 use Rattle.fk_base.specs.Path.{PathNames, parent, last_name, is_root, same_path}
 use Rattle.fk_tree.specs.Sorted.{has_path, in_path_order}
 use Rattle.fk_tree.specs.View.{View}
@@ -17,14 +18,15 @@ use Rattle.fk_tree.specs.declared.request.Part.{Part}
 use Rattle.fk_tree.specs.declared.request.Part.TheVariants as part
 use Rattle.fk_tree.specs.declared.request.Request.{Request}
 use Rattle.fk_tree.specs.declared.request.Request.TheVariants as request
+use Rattle.fk_tree.specs.Rows.{is_of}
 use Rattle.fk_tree.proofs.Order.{by_test, same_path_is, same_path_self}
+use Rattle.fk_tree.proofs.Passing.{passed_open, placed_none}
 use Rattle.fk_law_tree.specs.Locking.{Within, EditsAreLocked, owned_final, ReadsAreLocked, ReadsAreEdited, ListsOwned, GoneIsOwned, FitsByItsEdits, LocksReadLocked}
-use Rattle.fk_law_tree.specs.Owners.{is_owned}
 use Rattle.fk_law_tree.specs.Reading.{final_paths, create_reads, part_reads, parts_reads, reads, AgreeOn}
 use Rattle.fk_law_tree.specs.Fitting.{GoneIs}
 use Rattle.fk_law_tree.proofs.Lists.{ordered_has}
-use Rattle.fk_law_tree.proofs.Members.{or_left, or_right, has_append, edit_paths_append}
-use Rattle.fk_law_tree.proofs.Passing.{final_parent, final_below_root, passed_open, placed_none, CreatePasses, passed_create}
+use Rattle.fk_law_tree.proofs.Members.{or_left, has_append, edit_paths_append}
+use Rattle.fk_law_tree.proofs.Passing.{final_parent, final_below_root, CreatePasses, passed_create}
 use Rattle.fk_law_tree.proofs.Reading.{at_head, check_reads, fill_reads}
 
 -- LISTS
@@ -225,10 +227,6 @@ pub reads_are_edited : ReadsAreEdited
 reads_are_edited v a f = into_order (reads v a.session a.request) (edit_paths (effects a)) (request_edited v a a.request (passed_open v a.session a.request f.passes) f.name f.made)
 
 -- CLOSES BY WHAT THEY EDIT
-same_bool : (a b : Bool) → (a ≡ true → b ≡ true) → (b ≡ true → a ≡ true) → a ≡ b
-same_bool true b f g = sym (f refl)
-same_bool false true f g = g refl
-same_bool false false f g = refl
 
 gone_edited : (ps : List PathNames) → Within ps (edit_paths (deletes_edits ps))
 gone_edited ps p h = deletes_pairs p ps ∙ pair_of_one p ps h p (with_its_parent p p (or_left (same_path p p) _ (same_path_self p)))
@@ -237,7 +235,7 @@ gone_same : (v w : View) (a : Applied) (r : Request) → GoneIs v a.session r a.
 gone_same v w a (request.Create p bytes seq eph) g s l = g
 gone_same v w a (request.Set p bytes version) g s l = g
 gone_same v w a (request.Delete p version) g s l = g
-gone_same v w a (request.Close evict) g s l = (g.0, λ p. same_bool (has_path p a.gone) (is_owned a.session (w.node p)) (λ h. ap (is_owned a.session) (sym (s p (gone_edited a.gone p h))) ∙ sym (g.1 p) ∙ h) (l p))
+gone_same v w a (request.Close evict) g s l = (g.0, λ p. both_ways (has_path p a.gone) (is_of a.session (w.node p)) (λ h. ap (is_of a.session) (sym (s p (gone_edited a.gone p h))) ∙ sym (g.1 p) ∙ h) (l p))
 gone_same v w a (request.Multi xs) g s l = g
 
 pub fits_by_its_edits : FitsByItsEdits

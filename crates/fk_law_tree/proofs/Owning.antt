@@ -1,16 +1,13 @@
 -- Owners: edits keep those of other sessions, and the owned paths of a tree.
-use Rattle.std.proofs.Common.{◌≡◌, ◌≢◌, ℕ, Bool, true, false, cond, eqb, ◌&&◌, ◌||◌, T, List, [], ◌∷◌, ◌++◌, Option, Some, None, Ordering, refl, sym, ◌∙◌, ap, arith}
-use Rattle.std.specs.declared.cmp.Ordering.TheVariants.{Less, Equal, Greater}
-use Rattle.std.specs.Ordering.{is_lt, is_eq}
-use Rattle.std.specs.FinMap.{entries, find, is_sorted, get, get-entries, entries_sorted}
-use Rattle.std.specs.FinMap.Entries.{below_all}
+use Rattle.std.proofs.Common.{◌≡◌, ◌≢◌, ℕ, Bool, true, false, cond, eqb, ◌&&◌, ◌||◌, List, [], ◌∷◌, ◌++◌, Option, Some, None, refl, ◌∙◌, ap, arith}
+use Rattle.std.specs.FinMap.{entries, entries_sorted}
 use Rattle.std.proofs.lemmas.Bool.{false≢true}
 use Rattle.std.proofs.lemmas.Bool.Decides.{nat_tests}
 use Rattle.fk_base.specs.Path.{Name, PathNames, path_cmp, same_path, last_name, parent}
-use Rattle.fk_tree.specs.Sorted.{has_path, is_below, rises}
-use Rattle.fk_tree.specs.Tree.{Bare, Nodes, children, with_names, map_some, node_view}
+use Rattle.fk_tree.specs.Sorted.{has_path, rises}
+use Rattle.fk_tree.specs.Tree.{Nodes}
 use Rattle.fk_tree.specs.Edit.{edit, edited, effects, effects_of, of_parent, owner_for, create_edits, delete_edits, deletes_edits, part_edits, parts_edits, closes}
-use Rattle.fk_tree.specs.Fill.{owned, owned_in}
+use Rattle.fk_tree.specs.Fill.{owned}
 use Rattle.fk_tree.specs.declared.applied.Applied.{Applied}
 use Rattle.fk_tree.specs.declared.applied.Made.{Made}
 use Rattle.fk_tree.specs.declared.edit.Edit.{Edit}
@@ -22,10 +19,12 @@ use Rattle.fk_tree.specs.declared.request.Part.TheVariants as part
 use Rattle.fk_tree.specs.declared.request.Request.{Request}
 use Rattle.fk_tree.specs.declared.request.Request.TheVariants as request
 use Rattle.fk_tree.specs.View.{View}
-use Rattle.fk_tree.proofs.Order.{by_test, and_left, and_right, tested, tested_left, tested_right, same_path_is}
-use Rattle.fk_law_tree.specs.Owners.{is_owned, KeepsForeignOwners, OwnedAreTheOwners}
+use Rattle.fk_tree.specs.Rows.{is_of}
+use Rattle.fk_tree.proofs.Order.{and_left, and_right}
+use Rattle.fk_tree.proofs.Keeping.{edited_both}
+use Rattle.fk_tree.proofs.Owning.{owned_rises_in, owned_has}
+use Rattle.fk_law_tree.specs.Owners.{KeepsForeignOwners, OwnedAreTheOwners}
 use Rattle.fk_law_tree.specs.Fitting.{GoneIs, CloseLeavesNone}
-use Rattle.fk_law_tree.proofs.Members.{edited_append}
 
 -- an edit makes a node of no owner or of this session
 abbrev is_own : ℕ → What → Bool
@@ -39,7 +38,7 @@ all_own s (e ∷ es) = is_own s e.what && all_own s es
 made_owner : (s c owner : ℕ) → (eqb owner 0 || eqb owner s) ≡ true → c ≢ 0 → c ≢ s → eqb owner c ≡ true → ⊥
 made_owner s c owner i a b e = grind (arith, nat_tests)
 
-edit_owner : (tx moment s c : ℕ) (w : What) (o : Option Node) → is_own s w ≡ true → c ≢ 0 → c ≢ s → is_owned c (edit tx moment w o) ≡ true → is_owned c o ≡ true
+edit_owner : (tx moment s c : ℕ) (w : What) (o : Option Node) → is_own s w ≡ true → c ≢ 0 → c ≢ s → is_of c (edit tx moment w o) ≡ true → is_of c o ≡ true
 edit_owner tx moment s c (what.Make bytes owner) o i a b e = absurd (made_owner s c owner i a b e)
 edit_owner tx moment s c what.Remove o i a b e = absurd (false≢true e)
 edit_owner tx moment s c (what.Replace bytes) None i a b e = e
@@ -49,12 +48,12 @@ edit_owner tx moment s c (what.AddName x) (Some n) i a b e = grind arith
 edit_owner tx moment s c (what.DropName x) None i a b e = e
 edit_owner tx moment s c (what.DropName x) (Some n) i a b e = grind arith
 
-edited_owner : (tx moment s c : ℕ) (p : PathNames) (es : List Edit) (o : Option Node) → all_own s es ≡ true → c ≢ 0 → c ≢ s → is_owned c (edited tx moment p es o) ≡ true → is_owned c o ≡ true
+edited_owner : (tx moment s c : ℕ) (p : PathNames) (es : List Edit) (o : Option Node) → all_own s es ≡ true → c ≢ 0 → c ≢ s → is_of c (edited tx moment p es o) ≡ true → is_of c o ≡ true
 edited_owner tx moment s c p [] o i a b e = e
 edited_owner tx moment s c p (d ∷ es) o i a b e =
     one (same_path p d.path) (edited_owner tx moment s c p es (cond (same_path p d.path) (edit tx moment d.what o) o) (and_right _ _ i) a b e)
   where
-    one : (t : Bool) → is_owned c (cond t (edit tx moment d.what o) o) ≡ true → is_owned c o ≡ true
+    one : (t : Bool) → is_of c (cond t (edit tx moment d.what o) o) ≡ true → is_of c o ≡ true
     one true e = edit_owner tx moment s c d.what o (and_left _ _ i) a b e
     one false e = e
 
@@ -102,41 +101,41 @@ pub keeps_foreign_owners : KeepsForeignOwners
 keeps_foreign_owners v a p c z s e = edited_owner a.tx a.moment a.session c p (effects a) (v.node p) (own_effects a a.request) z s e
 
 -- CLOSES
-dropped_owner : (tx moment s : ℕ) (x : Name) (b : Bool) (o : Option Node) → is_owned s (cond b (edit tx moment (what.DropName x) o) o) ≡ is_owned s o
+dropped_owner : (tx moment s : ℕ) (x : Name) (b : Bool) (o : Option Node) → is_of s (cond b (edit tx moment (what.DropName x) o) o) ≡ is_of s o
 dropped_owner tx moment s x true None = refl
 dropped_owner tx moment s x true (Some n) = grind arith
 dropped_owner tx moment s x false o = refl
 
-deleted_owner : (tx moment s : ℕ) (p q : PathNames) (o : Option Node) → is_owned s (edited tx moment p (delete_edits q) o) ≡ cond (same_path p q) false (is_owned s o)
+deleted_owner : (tx moment s : ℕ) (p q : PathNames) (o : Option Node) → is_of s (edited tx moment p (delete_edits q) o) ≡ cond (same_path p q) false (is_of s o)
 deleted_owner tx moment s p [] o = removed (same_path p []) o
   where
-    removed : (b : Bool) (o : Option Node) → is_owned s (cond b None o) ≡ cond b false (is_owned s o)
+    removed : (b : Bool) (o : Option Node) → is_of s (cond b None o) ≡ cond b false (is_of s o)
     removed true o = refl
     removed false o = refl
 deleted_owner tx moment s p (n ∷ q) o = dropped_owner tx moment s (last_name (n ∷ q)) (same_path p (parent (n ∷ q))) (cond (same_path p (n ∷ q)) None o) ∙ removed (same_path p (n ∷ q)) o
   where
-    removed : (b : Bool) (o : Option Node) → is_owned s (cond b None o) ≡ cond b false (is_owned s o)
+    removed : (b : Bool) (o : Option Node) → is_of s (cond b None o) ≡ cond b false (is_of s o)
     removed true o = refl
     removed false o = refl
 
-deletes_owner : (tx moment s : ℕ) (p : PathNames) (ps : List PathNames) (o : Option Node) → is_owned s (edited tx moment p (deletes_edits ps) o) ≡ cond (has_path p ps) false (is_owned s o)
+deletes_owner : (tx moment s : ℕ) (p : PathNames) (ps : List PathNames) (o : Option Node) → is_of s (edited tx moment p (deletes_edits ps) o) ≡ cond (has_path p ps) false (is_of s o)
 deletes_owner tx moment s p [] o = refl
 deletes_owner tx moment s p (q ∷ ps) o =
-    ap (is_owned s) (edited_append tx moment p (delete_edits q) (deletes_edits ps) o)
+    ap (is_of s) (edited_both tx moment p (delete_edits q) (deletes_edits ps) o)
     ∙ deletes_owner tx moment s p ps (edited tx moment p (delete_edits q) o)
     ∙ ap (cond (has_path p ps) false) (deleted_owner tx moment s p q o)
-    ∙ joined (same_path p q) (has_path p ps) (is_owned s o)
+    ∙ joined (same_path p q) (has_path p ps) (is_of s o)
   where
     joined : (a b c : Bool) → cond b false (cond a false c) ≡ cond (a || b) false c
     joined true true c = refl
     joined true false c = refl
     joined false b c = refl
 
-close_leaves : (v : View) (a : Applied) (r : Request) (p : PathNames) → GoneIs v a.session r a.gone → closes r ≡ true → is_owned a.session (edited a.tx a.moment p (effects_of a r) (v.node p)) ≡ false
+close_leaves : (v : View) (a : Applied) (r : Request) (p : PathNames) → GoneIs v a.session r a.gone → closes r ≡ true → is_of a.session (edited a.tx a.moment p (effects_of a r) (v.node p)) ≡ false
 close_leaves v a (request.Create q bytes seq eph) p g c = absurd (false≢true c)
 close_leaves v a (request.Set q bytes version) p g c = absurd (false≢true c)
 close_leaves v a (request.Delete q version) p g c = absurd (false≢true c)
-close_leaves v a (request.Close evict) p g c = deletes_owner a.tx a.moment a.session p a.gone (v.node p) ∙ ap (λ b. cond b false (is_owned a.session (v.node p))) (g.1 p) ∙ none (is_owned a.session (v.node p))
+close_leaves v a (request.Close evict) p g c = deletes_owner a.tx a.moment a.session p a.gone (v.node p) ∙ ap (λ b. cond b false (is_of a.session (v.node p))) (g.1 p) ∙ none (is_of a.session (v.node p))
   where
     none : (b : Bool) → cond b false b ≡ false
     none true = refl
@@ -147,46 +146,6 @@ pub close_leaves_none : CloseLeavesNone
 close_leaves_none v a p f c = close_leaves v a a.request p f.gone c
 
 -- OWNED PATHS
-abbrev owner_is : ℕ → Option Bare → Bool
-owner_is s None = false
-owner_is s (Some b) = eqb b.owner s
-
-not_tied : (p q : PathNames) → is_lt (path_cmp p q) ≡ true → same_path p q ≡ false
-not_tied p q l = turned (path_cmp p q) l
-  where
-    turned : (o : Ordering) → is_lt o ≡ true → is_eq o ≡ false
-    turned Less e = refl
-    turned Equal e = absurd (false≢true e)
-    turned Greater e = refl
-
-below_none : (p : PathNames) (es : List (PathNames × Bare)) → T (below_all path_cmp p es) → find path_cmp p es ≡ None
-below_none p [] b = refl
-below_none p (e ∷ es) b = rw (not_tied p e.0 (tested _ (tested_left _ _ b))) (below_none p es (tested_right _ _ b))
-
-owned_has_in : (s : ℕ) (p : PathNames) (es : List (PathNames × Bare)) → T (is_sorted path_cmp es) → has_path p (owned_in s es) ≡ owner_is s (find path_cmp p es)
-owned_has_in s p [] h = refl
-owned_has_in s p (e ∷ es) h = step (owned_has_in s p es (tested_right _ _ h)) (eqb (e.1).owner s) refl (same_path p e.0) refl
-  where
-    step : has_path p (owned_in s es) ≡ owner_is s (find path_cmp p es) → (c : Bool) → eqb (e.1).owner s ≡ c → (d : Bool) → same_path p e.0 ≡ d → has_path p (cond c (e.0 ∷ owned_in s es) (owned_in s es)) ≡ owner_is s (cond d (Some e.1) (find path_cmp p es))
-    step rest true a true b = rw b (sym a)
-    step rest true a false b = rw b rest
-    step rest false a true b = rest ∙ rw (same_path_is p e.0 b, below_none e.0 es (tested_left _ _ h)) (sym a)
-    step rest false a false b = rest
-
-below_owned : (s : ℕ) (p : PathNames) (es : List (PathNames × Bare)) → T (below_all path_cmp p es) → is_below path_cmp p (owned_in s es) ≡ true
-below_owned s p [] h = refl
-below_owned s p (e ∷ es) h = by_test (eqb (e.1).owner s) (λ c. is_below path_cmp p (cond c (e.0 ∷ owned_in s es) (owned_in s es)) ≡ true) (λ _. let l : is_lt (path_cmp p e.0) ≡ true = tested _ (tested_left _ _ h) in rw l (below_owned s p es (tested_right _ _ h))) (λ _. below_owned s p es (tested_right _ _ h))
-
-owned_rises_in : (s : ℕ) (es : List (PathNames × Bare)) → T (is_sorted path_cmp es) → rises path_cmp (owned_in s es) ≡ true
-owned_rises_in s [] h = refl
-owned_rises_in s (e ∷ es) h = by_test (eqb (e.1).owner s) (λ c. rises path_cmp (cond c (e.0 ∷ owned_in s es) (owned_in s es)) ≡ true) (λ _. let l : is_below path_cmp e.0 (owned_in s es) ≡ true = below_owned s e.0 es (tested_left _ _ h) in rw l (owned_rises_in s es (tested_right _ _ h))) (λ _. owned_rises_in s es (tested_right _ _ h))
-
-pub owned_has : (t : Nodes) (s : ℕ) (p : PathNames) → has_path p (owned t s) ≡ is_owned s (node_view t p)
-owned_has t s p = owned_has_in s p (entries t) (entries_sorted t) ∙ ap (owner_is s) (sym (get-entries t p)) ∙ step (children t p) (get t p)
-  where
-    step : (ns : List Name) (o : Option Bare) → owner_is s o ≡ is_owned s (map_some (with_names ns) o)
-    step ns None = refl
-    step ns (Some b) = refl
 
 pub owned_rises : (t : Nodes) (s : ℕ) → rises path_cmp (owned t s) ≡ true
 owned_rises t s = owned_rises_in s (entries t) (entries_sorted t)

@@ -10,11 +10,11 @@ use Rattle.fk_tree.specs.Touch.{edited_paths}
 use Rattle.fk_tree.specs.declared.applied.Applied.{Applied}
 use Rattle.fk_tree.specs.declared.request.Request.{Request}
 use Rattle.fk_tree.specs.declared.request.Request.TheVariants as request
+use Rattle.fk_tree.specs.Rows.{is_of}
 use Rattle.fk_tree.proofs.Order.{by_test}
 use Rattle.fk_law_tree.specs.Disjoint.{AreApart, FitsAfterOthers, ApartCommute}
 use Rattle.fk_law_tree.specs.Fitting.{GoneIs}
 use Rattle.fk_law_tree.specs.Locking.{ListsOwned}
-use Rattle.fk_law_tree.specs.Owners.{is_owned}
 use Rattle.fk_law_tree.specs.Reading.{AgreeOn}
 use Rattle.fk_law_tree.proofs.Counting.{unedited_stays}
 use Rattle.fk_law_tree.proofs.Holding.{fits_by_its_edits}
@@ -39,7 +39,7 @@ closed_apart v a s n = step (closes a.request)
     step false = refl
 
 -- the session of a close owns no more than it did
-lists_apart : (v w : View) (session : ℕ) (r : Request) (gone : List PathNames) → GoneIs v session r gone → ((p : PathNames) → is_owned session (w.node p) ≡ true → is_owned session (v.node p) ≡ true) → ListsOwned w session r gone
+lists_apart : (v w : View) (session : ℕ) (r : Request) (gone : List PathNames) → GoneIs v session r gone → ((p : PathNames) → is_of session (w.node p) ≡ true → is_of session (v.node p) ≡ true) → ListsOwned w session r gone
 lists_apart v w session (request.Create p bytes seq eph) gone g f = tt
 lists_apart v w session (request.Set p bytes version) gone g f = tt
 lists_apart v w session (request.Delete p version) gone g f = tt

@@ -1,60 +1,30 @@
 -- What holds where a request passes.
-use Rattle.std.proofs.Common.{◌≡◌, ℕ, suc, ℤ, Bool, true, false, cond, eqb, ◌||◌, List, [], ◌∷◌, ◌++◌, Option, Some, None, refl, ap}
+use Rattle.std.proofs.Common.{◌≡◌, ℕ, suc, ℤ, Bool, true, false, cond, eqb, ◌||◌, List, [], ◌∷◌, Option, Some, None, refl}
 use Rattle.std.specs.Prelude.{is_some}
-use Rattle.fk_base.specs.Path.{Name, PathNames, parent, is_root}
+use Rattle.fk_base.specs.Path.{PathNames, parent, is_root}
 use Rattle.fk_base.specs.declared.code.Code.{Code}
 use Rattle.fk_base.specs.declared.code.Code.TheVariants as code
 use Rattle.fk_tree.specs.View.{View}
 use Rattle.fk_tree.specs.Fill.{final_path, after_part}
-use Rattle.fk_tree.specs.Check.{Refusal, check, check_create, check_under, check_delete, check_part, check_parts, check_open, at_place, or_else, is_version, has_names}
+use Rattle.fk_tree.specs.Check.{check_create, check_under, check_delete, check_part, check_parts, at_place, is_version, has_names}
 use Rattle.fk_tree.specs.declared.node.Node.{Node}
 use Rattle.fk_tree.specs.declared.request.Part.{Part}
-use Rattle.fk_tree.specs.declared.request.Request.{Request}
-
--- the path of a child, and its parent
-pub parent_child : (p : PathNames) (n : Name) → parent (p ++ n ∷ []) ≡ p
-parent_child [] n = refl
-parent_child (x ∷ []) n = refl
-parent_child (x ∷ y ∷ p) n = ap (λ q. x ∷ q) (parent_child (y ∷ p) n)
-
-pub child_below_root : (p : PathNames) (n : Name) → is_root (p ++ n ∷ []) ≡ false
-child_below_root [] n = refl
-child_below_root (x ∷ p) n = refl
+use Rattle.fk_tree.proofs.Passing.{placed_none, first_none, second_none, parent_child, child_root}
 
 pub final_parent : (p : PathNames) (seq : Bool) (made : ℕ) → parent (final_path p seq made) ≡ parent p
 final_parent p true made = parent_child (parent p) _
 final_parent p false made = refl
 
 pub final_below_root : (p : PathNames) (seq : Bool) (made : ℕ) → is_root p ≡ false → is_root (final_path p seq made) ≡ false
-final_below_root p true made e = child_below_root (parent p) _
+final_below_root p true made e = child_root (parent p) _
 final_below_root p false made e = e
-
--- what passes for a session passes the checks behind that of the session
-pub passed_open : (v : View) (s : ℕ) (r : Request) → check v s r ≡ None → check_open v s r ≡ None
-passed_open v s r e = step (v.closed s) (record { code = code.SessionExpired; place = 0 }) e
-  where
-    step : (b : Bool) (x : Refusal) → cond b (Some x) (check_open v s r) ≡ None → check_open v s r ≡ None
-    step true x e = absurd (cc)
-    step false x e = e
-
-pub placed_none : (place : ℕ) (o : Option Code) → at_place place o ≡ None → o ≡ None
-placed_none place None e = refl
-placed_none place (Some c) e = absurd (cc)
-
-else_left : (o x : Option Refusal) → or_else o x ≡ None → o ≡ None
-else_left None x e = refl
-else_left (Some r) x e = absurd (cc)
-
-else_right : (o x : Option Refusal) → or_else o x ≡ None → x ≡ None
-else_right None x e = e
-else_right (Some r) x e = absurd (cc)
 
 -- where parts pass, the first does, and the others do after it
 pub first_passes : (v : View) (session place : ℕ) (x : Part) (xs : List Part) → check_parts v session place (x ∷ xs) ≡ None → check_part v x ≡ None
-first_passes v session place x xs e = placed_none place (check_part v x) (else_left (at_place place (check_part v x)) (check_parts (after_part v session x) session (suc place) xs) e)
+first_passes v session place x xs e = placed_none place (check_part v x) (first_none (at_place place (check_part v x)) (check_parts (after_part v session x) session (suc place) xs) e)
 
 pub others_pass : (v : View) (session place : ℕ) (x : Part) (xs : List Part) → check_parts v session place (x ∷ xs) ≡ None → check_parts (after_part v session x) session (suc place) xs ≡ None
-others_pass v session place x xs e = else_right (at_place place (check_part v x)) (check_parts (after_part v session x) session (suc place) xs) e
+others_pass v session place x xs e = second_none (at_place place (check_part v x)) (check_parts (after_part v session x) session (suc place) xs) e
 
 -- a create that passes: below the root, under a node without an owner, at a free path
 pub record CreatePasses (v : View) (p : PathNames) (seq : Bool) : Type 0 where

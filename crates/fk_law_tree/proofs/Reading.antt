@@ -1,5 +1,6 @@
 -- Views that show the same where they are read give the same.
 use Rattle.std.proofs.Common.{◌≡◌, ℕ, suc, Bool, false, List, [], ◌∷◌, ◌++◌, Option, Some, None, refl, ◌∙◌, ap}
+use Rattle.std.proofs.lemmas.Bool.{or_right}
 use Rattle.fk_base.specs.Path.{PathNames, parent, same_path}
 use Rattle.fk_tree.specs.Sorted.{has_path}
 use Rattle.fk_tree.specs.View.{View}
@@ -13,7 +14,7 @@ use Rattle.fk_tree.specs.declared.request.Request.{Request}
 use Rattle.fk_tree.specs.declared.request.Request.TheVariants as request
 use Rattle.fk_tree.proofs.Order.{same_path_self}
 use Rattle.fk_law_tree.specs.Reading.{final_paths, create_reads, part_reads, parts_reads, reads, AgreeOn, CheckReads, FillReads, AskReads}
-use Rattle.fk_law_tree.proofs.Members.{or_left, or_right, has_append}
+use Rattle.fk_law_tree.proofs.Members.{or_left, has_append}
 
 -- a path that heads the list
 pub at_head : (v w : View) (p : PathNames) (ps : List PathNames) → AgreeOn v w (p ∷ ps) → v.node p ≡ w.node p

@@ -17,9 +17,10 @@ use Rattle.fk_tree.specs.Edit.{effects, effects_of, of_parent, owner_for, set_ed
 use Rattle.fk_tree.specs.Touch.{same_touch, others, once, with_parent_touched, set_touches, deletes_touches, part_touches, parts_touches, touches_of, edit_paths}
 use Rattle.fk_tree.specs.Watch.{has_touch}
 use Rattle.fk_tree.proofs.Order.{by_test, and_left, same_path_is}
+use Rattle.fk_tree.proofs.Looking.{same_flip}
 use Rattle.fk_law_tree.specs.Touching.{TouchPaths}
 use Rattle.fk_law_tree.proofs.Lists.{ordered_has}
-use Rattle.fk_law_tree.proofs.Members.{flipped, has_append, edit_paths_append}
+use Rattle.fk_law_tree.proofs.Members.{has_append, edit_paths_append}
 
 -- without the others of one that is there
 others_has : (p : PathNames) (t : Touch) (us : List Touch) → has_touch p (t ∷ others t us) ≡ has_touch p (t ∷ us)
@@ -53,7 +54,7 @@ touch_append p (t ∷ ts) us = ap (cond (same_path t.path p) true) (touch_append
     grouped false b c = refl
 
 one_touch : (p q : PathNames) (c d : Bool) → c ≡ d → cond (same_path q p) true c ≡ (same_path p q || d)
-one_touch p q c d e = rw (flipped q p, e) (either (same_path p q) d)
+one_touch p q c d e = rw (same_flip q p, e) (either (same_path p q) d)
   where
     either : (a b : Bool) → cond a true b ≡ (a || b)
     either true b = refl

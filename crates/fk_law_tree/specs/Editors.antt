@@ -8,7 +8,7 @@ use Rattle.fk_tree.specs.Touch.{edited_paths, edits_at}
 use Rattle.fk_tree.specs.declared.applied.Applied.{Applied}
 use Rattle.fk_tree.specs.declared.edit.Edit.{Edit}
 use Rattle.fk_tree.specs.declared.node.Node.{Node}
-use Rattle.fk_law_tree.specs.Owners.{is_owned}
+use Rattle.fk_tree.specs.Rows.{is_of}
 
 -- those that edit the path
 abbrev pub editors : PathNames → List Applied → List Applied
@@ -38,4 +38,4 @@ is_edited p (a ∷ done) = has_path p (edited_paths a) || is_edited p done
 
 -- a node that a session owns was edited
 abbrev pub OwnedWasEdited : Type 0
-OwnedWasEdited = (done : List Applied) (session : ℕ) (p : PathNames) → session ≢ 0 → is_owned session ((view_after done).node p) ≡ true → is_edited p done ≡ true
+OwnedWasEdited = (done : List Applied) (session : ℕ) (p : PathNames) → session ≢ 0 → is_of session ((view_after done).node p) ≡ true → is_edited p done ≡ true

@@ -11,12 +11,12 @@ use Rattle.fk_tree.specs.Apply.{IsFilled, reply_of}
 use Rattle.fk_tree.specs.declared.applied.Applied.{Applied}
 use Rattle.fk_tree.specs.declared.request.Request.{Request}
 use Rattle.fk_tree.specs.declared.request.Request.TheVariants as request
-use Rattle.fk_law_tree.specs.Owners.{is_owned}
+use Rattle.fk_tree.specs.Rows.{is_of}
 use Rattle.fk_law_tree.specs.Reading.{reads, AgreeOn}
 
 -- a close removes the paths whose node its session owns, in path order; no other request removes any
 abbrev pub GoneIs : View → ℕ → Request → List PathNames → Type 0
-GoneIs v session (request.Close evict) gone = (rises path_cmp gone ≡ true) × ((p : PathNames) → has_path p gone ≡ is_owned session (v.node p))
+GoneIs v session (request.Close evict) gone = (rises path_cmp gone ≡ true) × ((p : PathNames) → has_path p gone ≡ is_of session (v.node p))
 GoneIs v session _ gone = gone ≡ []
 
 -- a session's request that passes on this view, as it is filled from it
@@ -52,4 +52,4 @@ SameReply =
 
 -- after a close that fits, its session owns no node
 abbrev pub CloseLeavesNone : Type 0
-CloseLeavesNone = (v : View) (a : Applied) (p : PathNames) → Fits v a → closes a.request ≡ true → is_owned a.session ((after v a).node p) ≡ false
+CloseLeavesNone = (v : View) (a : Applied) (p : PathNames) → Fits v a → closes a.request ≡ true → is_of a.session ((after v a).node p) ≡ false

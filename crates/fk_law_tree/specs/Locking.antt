@@ -10,8 +10,8 @@ use Rattle.fk_tree.specs.declared.applied.Applied.{Applied}
 use Rattle.fk_tree.specs.declared.node.Node.{Node}
 use Rattle.fk_tree.specs.declared.request.Request.{Request}
 use Rattle.fk_tree.specs.declared.request.Request.TheVariants as request
+use Rattle.fk_tree.specs.Rows.{is_of}
 use Rattle.fk_law_tree.specs.Fitting.{Fits}
-use Rattle.fk_law_tree.specs.Owners.{is_owned}
 use Rattle.fk_law_tree.specs.Reading.{reads, AgreeOn}
 
 -- each of these paths is among those
@@ -42,7 +42,7 @@ ReadsAreEdited = (v : View) (a : Applied) → Fits v a → Within (reads v a.ses
 
 -- each path whose node the session of a close owns is among these
 abbrev pub ListsOwned : View → ℕ → Request → List PathNames → Type 0
-ListsOwned v session (request.Close evict) ps = (p : PathNames) → is_owned session (v.node p) ≡ true → has_path p ps ≡ true
+ListsOwned v session (request.Close evict) ps = (p : PathNames) → is_of session (v.node p) ≡ true → has_path p ps ≡ true
 ListsOwned v session _ ps = Unit {0}
 
 -- what a request that fits removes is among the owned paths, where these list all

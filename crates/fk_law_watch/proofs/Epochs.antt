@@ -4,7 +4,7 @@ use Rattle.std.specs.Ordering.{nat_cmp, is_eq}
 use Rattle.std.specs.FinMap.{nat_cmp-IsAntisymmetric}
 use Rattle.std.proofs.lemmas.Cmp.{nat_cmp_total}
 use Rattle.std.proofs.Common.{◌≡◌, ℕ, ◌<◌, ◌≤◌, ◌++◌, Bool, true, false, List, [], ◌∷◌, refl, sym, ◌∙◌, ap, subst, arith, Option, Some, None}
-use Rattle.std.proofs.lemmas.Bool.{false≢true}
+use Rattle.std.proofs.lemmas.Bool.{false≢true, or_right}
 use Rattle.std.proofs.lemmas.Bool.Decides.{nat_tests}
 use Rattle.fk_base.specs.Path.{PathNames}
 use Rattle.fk_tree.specs.Sorted.{has, sorted}
@@ -24,13 +24,13 @@ use Rattle.fk_spec.specs.Function.{Leading, place_of, actor}
 use Rattle.fk_spec.specs.Next.{IsHistory}
 use Rattle.fk_law.specs.Due.{IsDue}
 use Rattle.fk_law.proofs.Due.{due}
-use Rattle.fk_law.proofs.Leading.{leader_stands_where_it_may, mark_behind_sweep, done_is_removed_or_one_more, leader_at_or_below_the_head}
+use Rattle.fk_law.proofs.Leading.{leader_stands_where_it_may, mark_behind_sweep, done_is_removed_or_one_more, leader_at_or_below_the_head, mark_grows}
 use Rattle.fk_law.proofs.Moving.{OnLeader, leader_step}
 use Rattle.fk_law.proofs.Starting.{leader_task}
 use Rattle.fk_law_watch.specs.Noting.{untold, fired_at}
 use Rattle.fk_law_watch.specs.Epochs.{HaveFired, IsComplete, HoldsSo, Holds, LeaderHoldsACompleteEpoch, EpochHasFired, UntoldFiredWatchIsInTheEpoch}
 use Rattle.fk_law_watch.proofs.SetWatches.{by_or}
-use Rattle.fk_law_watch.proofs.Listing.{fired_of}
+use Rattle.fk_law_watch.proofs.Listing.{fired_of, or_maps}
 use Rattle.fk_law_watch.proofs.SetWatches.{watches_unique}
 use Rattle.fk_law_watch.proofs.Noting.{fired_is_listed, fired_at_its_push}
 use Rattle.fk_law_watch.proofs.Handing.{swept_by_stays, swept_now, done_mark}
@@ -67,20 +67,12 @@ contains_append id (f ∷ fs) gs = one (f.watch.id == id) (contains_append id fs
     one true i = refl
     one false i = i
 
-or_maps : (a b c : Bool) → (b ≡ true → c ≡ true) → (a || b) ≡ true → (a || c) ≡ true
-or_maps true b c f e = refl
-or_maps false b c f e = f e
-
-or_after : (a c : Bool) → c ≡ true → (a || c) ≡ true
-or_after true c e = refl
-or_after false c e = e
-
 kept_contains : (id s : ℕ) (fs : List Firing) → contains id (ids_of (not_of s fs)) ≡ true → contains id (ids_of fs) ≡ true
 kept_contains id s [] e = e
 kept_contains id s (f ∷ fs) e = one (f.tx == s) (kept_contains id s fs) e
   where
     one : (b : Bool) → (contains id (ids_of (not_of s fs)) ≡ true → contains id (ids_of fs) ≡ true) → contains id (ids_of (if b then not_of s fs else f ∷ not_of s fs)) ≡ true → ((f.watch.id == id) || contains id (ids_of fs)) ≡ true
-    one true i a = or_after (f.watch.id == id) (contains id (ids_of fs)) (i a)
+    one true i a = or_right (f.watch.id == id) (contains id (ids_of fs)) (i a)
     one false i a = or_maps (f.watch.id == id) (contains id (ids_of (not_of s fs))) (contains id (ids_of fs)) i a
 
 pub by_contains : (id t : ℕ) (fs : List Firing) → contains id (ids_of (fired_by t fs)) ≡ true → contains id (ids_of fs) ≡ true
@@ -89,13 +81,13 @@ by_contains id t (f ∷ fs) e = one (f.tx == t) (by_contains id t fs) e
   where
     one : (b : Bool) → (contains id (ids_of (fired_by t fs)) ≡ true → contains id (ids_of fs) ≡ true) → contains id (ids_of (if b then f ∷ fired_by t fs else fired_by t fs)) ≡ true → ((f.watch.id == id) || contains id (ids_of fs)) ≡ true
     one true i a = or_maps (f.watch.id == id) (contains id (ids_of (fired_by t fs))) (contains id (ids_of fs)) i a
-    one false i a = or_after (f.watch.id == id) (contains id (ids_of fs)) (i a)
+    one false i a = or_right (f.watch.id == id) (contains id (ids_of fs)) (i a)
 
 some_left : (a b : Option Firing) → is_some a ≡ true → is_some (or_else a b) ≡ true
 some_left None b e = absurd (false≢true e)
 some_left (Some x) b e = refl
 
-some_right : (a b : Option Firing) → is_some b ≡ true → is_some (or_else a b) ≡ true
+pub some_right : (a b : Option Firing) → is_some b ≡ true → is_some (or_else a b) ≡ true
 some_right None b e = e
 some_right (Some x) b e = refl
 
@@ -117,9 +109,6 @@ have_fired_more p e h ids i id a = some_right (firing_in p id h e.op) (firing_of
 
 -- Leaders. ---------------------------------------------------------------------------------------------
 
-mark_grows : (h : List Entry) (o : Op) → mark_of h ≤ mark_in o (mark_of h)
-mark_grows h o = grind (arith, nat_tests)
-
 -- a leader that another's sweep passed has published its push
 passed_is_published : (p : Plan) (n t m u k : ℕ) (s : leader.Stage) (h : List Entry) → IsHistory p h → IsDue p h (op.SweepOk m u k) → t ≤ swept_of h → is_committed t h ≡ true → t ≤ mark_of h
 passed_is_published p n t m u k s h l d a c =
@@ -134,7 +123,7 @@ complete_step p t ids e h (op.Told m u) l d c a b i id x = i id (kept_contains i
 complete_step p t ids e h o l d c a b i id x = i id x
 
 complete_more : (p : Plan) (t : ℕ) (ids : List ℕ) (e : Entry) (h : List Entry) → IsHistory p (e ∷ h) → is_committed t h ≡ true → t ≤ swept_of h → IsComplete p h t ids → IsComplete p (e ∷ h) t ids
-complete_more p t ids e h l c a i = (have_fired_more p e h ids i.0, λ m id x. let g = mark_grows h e.op in let b : mark_of h < t = omega (arith, g, m) in complete_step p t ids e h e.op l.0 (due p e h l) c a b (i.1 b) id x)
+complete_more p t ids e h l c a i = (have_fired_more p e h ids i.0, λ m id x. let g = mark_grows (mark_of h) e.op in let b : mark_of h < t = omega (arith, g, m) in complete_step p t ids e h e.op l.0 (due p e h l) c a b (i.1 b) id x)
 
 holds_grow : (p : Plan) (n t : ℕ) (s : leader.Stage) (e : Entry) (h : List Entry) → IsHistory p (e ∷ h) → place_of p n h ≡ Leading t s → swept_by p n (e ∷ h) ≡ swept_by p n h → Holds p n h t s → Holds p n (e ∷ h) t s
 holds_grow p n t (leader.Put path others) e h l b q i = let w = leader_stands_where_it_may p n t (leader.Put path others) h l.0 b in subst (λ x. IsComplete p (e ∷ h) t x.epoch) (sym q) (complete_more p t (swept_by p n h).epoch e h l w.0 w.1 i)

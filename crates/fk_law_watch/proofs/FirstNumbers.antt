@@ -3,6 +3,7 @@ use Rattle.std.specs.Prelude.{◌==◌}
 use Rattle.std.proofs.Common.{◌≡◌, ℕ, zero, suc, ◌<◌, ◌≤◌, Bool, true, false, List, [], ◌∷◌, refl, sym, ◌∙◌, ap, subst, arith, Option, Some, None}
 use Rattle.std.proofs.lemmas.Bool.{false≢true, cond_both}
 use Rattle.std.proofs.lemmas.Bool.Decides.{nat_tests}
+use Rattle.std.proofs.lemmas.Option.{same_Some}
 use Rattle.fk_base.specs.Path.{PathNames, is_root}
 use Rattle.fk_tree.specs.declared.request.Part.{Part}
 use Rattle.fk_tree.specs.declared.request.Query.{Query}
@@ -15,14 +16,14 @@ use Rattle.fk_script.specs.declared.command.Command.TheVariants as command
 use Rattle.fk_script.specs.declared.deployment.Block.{Block}
 use Rattle.fk_spec.specs.Plan.{Plan, Ask, Want, Unfit, Writes, Reads, asks_of, all_asks, ask_of, want_of, at_path, want_delete, want_multi, parts_of, path_within, path_limit, is_small, item_after, nth, or_empty}
 use Rattle.fk_spec.specs.Start.{or_else, when}
-use Rattle.fk_spec.specs.Settling.{mark_of, mark_in}
+use Rattle.fk_spec.specs.Settling.{mark_of}
 use Rattle.fk_spec.specs.Client.{is_write}
 use Rattle.fk_spec.specs.Watches.{Firing, firing_of}
 use Rattle.fk_spec.specs.Next.{IsHistory}
 use Rattle.fk_law.specs.Due.{IsDue}
 use Rattle.fk_law.specs.LeaderLane.{sweeps}
 use Rattle.fk_law.proofs.Due.{due}
-use Rattle.fk_law.proofs.Leading.{mark_behind_sweep}
+use Rattle.fk_law.proofs.Leading.{mark_behind_sweep, mark_grows}
 use Rattle.fk_law_watch.specs.FirstNumbers.{ReadsAreReads, DeploymentsReadByReads, FiresBeyondItsFirst}
 use Rattle.fk_law_watch.specs.Registering.{number_of_read}
 use Rattle.fk_law_watch.specs.SetWatches.{first_of, registered_in}
@@ -81,10 +82,10 @@ all_reads (b ∷ bs) = (asks_reads b.commands, all_reads bs)
 
 item_read : (xs : List Ask) (n : ℕ) (a : Ask) → AreReads xs → item_after xs n ≡ Some a → IsRead a
 item_read [] n a i e = absurd (grind arith)
-item_read (x ∷ xs) zero a i e = subst IsRead (some_same x a e) i.0
+item_read (x ∷ xs) zero a i e = subst IsRead (same_Some x a e) i.0
   where
-    some_same : (x y : Ask) → Some x ≡ Some y → x ≡ y
-    some_same x y e = cc
+    same_Some : (x y : Ask) → Some x ≡ Some y → x ≡ y
+    same_Some x y e = cc
 item_read (x ∷ xs) (suc n) a i e = item_read xs n a i.1 e
 
 list_read : (all : List (List Ask)) (n : ℕ) → AllReads all → AreReads (or_empty (item_after all n))
@@ -105,17 +106,11 @@ deployments_read_by_reads d c i a q w e f = nth_read (or_empty (nth (all_asks d.
 
 -- First numbers. ---------------------------------------------------------------------------------------
 
-some_same : {A : Type 0} → (x y : A) → Some x ≡ Some y → x ≡ y
-some_same x y e = cc
-
-mark_grows : (h : List Entry) (o : Op) → mark_of h ≤ mark_in o (mark_of h)
-mark_grows h o = grind (arith, nat_tests)
-
 registered_low : (p : Plan) (id first : ℕ) (e : Entry) (h : List Entry) (o : Op) → e.op ≡ o → ReadsAreReads p → IsHistory p (e ∷ h) → registered_in p id h o ≡ Some first → first ≤ mark_of h
 registered_low p id first e h (op.WatchSet c i j) q k l a = subst (λ z. z ≤ mark_of h) (number (j == id) a) (watches_are_set_up_to_the_mark p c i j e h k l q)
   where
     number : (b : Bool) → when b (number_of_read p c h) ≡ Some first → number_of_read p c h ≡ first
-    number true a = some_same (number_of_read p c h) first a
+    number true a = same_Some (number_of_read p c h) first a
     number false a = absurd (grind arith)
 registered_low p id first e h o q k l a = absurd (grind arith)
 
@@ -124,8 +119,8 @@ first_low p id first [] k l a = absurd (grind arith)
 first_low p id first (e ∷ h) k l a = by_old (first_of p id h) refl a (first_low p id first h k l.0)
   where
     by_old : (o : Option ℕ) → first_of p id h ≡ o → or_else o (registered_in p id h e.op) ≡ Some first → (first_of p id h ≡ Some first → first ≤ mark_of h) → first ≤ mark_of (e ∷ h)
-    by_old None b c i = let x = registered_low p id first e h e.op refl k l c in let g = mark_grows h e.op in omega (arith, x, g)
-    by_old (Some m) b c i = let x = i (b ∙ c) in let g = mark_grows h e.op in omega (arith, x, g)
+    by_old None b c i = let x = registered_low p id first e h e.op refl k l c in let g = mark_grows (mark_of h) e.op in omega (arith, x, g)
+    by_old (Some m) b c i = let x = i (b ∙ c) in let g = mark_grows (mark_of h) e.op in omega (arith, x, g)
 
 beyond_step : (p : Plan) (id first t : ℕ) (h : List Entry) (o : Op) → ReadsAreReads p → IsHistory p h → IsDue p h o → sweeps t o ≡ true → or_else (first_of p id h) (registered_in p id h o) ≡ Some first → first < t
 beyond_step p id first t h (op.SweepOk n s f) k l d a b =
@@ -148,5 +143,5 @@ fires_beyond_its_first p id first (e ∷ h) f k l a b = by_old (firing_of p id h
     by_old (Some g) c i =
         let q : firing_of p id h ≡ Some f = c ∙ sym (firing_never_changes p id h (e ∷ []) g l c) ∙ a in
         let w = fired_watch_fired_at_its_first_change p id h f l.0 q in
-        let m = some_same w.first first (sym (or_stays (first_of p id h) (registered_in p id h e.op) w.first w.registered) ∙ b) in
+        let m = same_Some w.first first (sym (or_stays (first_of p id h) (registered_in p id h e.op) w.first w.registered) ∙ b) in
         i q (w.registered ∙ ap Some m)

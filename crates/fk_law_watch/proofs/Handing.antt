@@ -1,7 +1,7 @@
 -- What a leader has in hand of its push's fired watches.
 use Rattle.std.specs.Prelude.{◌==◌, ◌||◌, if◌then◌else◌, max, nat_le}
 use Rattle.std.proofs.Common.{◌≡◌, ◌≢◌, ℕ, ◌+◌, ◌<◌, ◌≤◌, ◌⊎◌, inl, inr, Bool, true, false, List, [], ◌∷◌, refl, sym, ◌∙◌, ap, subst, arith, Some, None}
-use Rattle.std.proofs.lemmas.Bool.{false≢true}
+use Rattle.std.proofs.lemmas.Bool.{false≢true, or_right, leb-true, leb-false}
 use Rattle.std.proofs.lemmas.Bool.Decides.{nat_tests}
 use Rattle.fk_base.specs.Path.{PathNames}
 use Rattle.fk_print.specs.declared.entry.Entry.{Entry}
@@ -22,13 +22,12 @@ use Rattle.fk_law.specs.Due.{IsDue}
 use Rattle.fk_law.specs.Losing.{IsDead}
 use Rattle.fk_law.specs.LeaderLane.{is_swept, Stands}
 use Rattle.fk_law.proofs.Due.{due}
-use Rattle.fk_law.proofs.Numbers.{at_most, above}
-use Rattle.fk_law.proofs.Leading.{leader_stands_where_it_may, swept_up_to_the_sweep, done_is_removed_or_one_more, leader_at_or_below_the_head, commits_are_beyond_the_sweep}
+use Rattle.fk_law.proofs.Numbers.{itself}
+use Rattle.fk_law.proofs.Leading.{leader_stands_where_it_may, swept_up_to_the_sweep, done_is_removed_or_one_more, leader_at_or_below_the_head, commits_are_beyond_the_sweep, mark_grows}
 use Rattle.fk_law.proofs.Moving.{OnLeader, leader_step}
 use Rattle.fk_law.proofs.Starting.{leader_task}
 use Rattle.fk_law_watch.specs.Noting.{fired_at_in, fired_at, tells_all, is_told, notes, is_noted, untold, IsFull, HasInHand, HandsSo, Hands, FiredListInHand, NoteTellsWhatItsPushFired, FiredPushIsNotedBeforeDone}
 use Rattle.fk_law_watch.proofs.Sweeps.{swept_was_committed}
-use Rattle.fk_law_watch.proofs.SetWatches.{or_right}
 use Rattle.fk_law_watch.proofs.Noting.{unswept_fired, fired_stays, stands_swept, note_published, told_published, fired_is_listed}
 
 -- What a sweep gives, and nothing else does. -----------------------------------------------------------
@@ -49,11 +48,8 @@ other_sweep n o fs s a = refl
 pub swept_by_stays : (p : Plan) (n : ℕ) (e : Entry) (h : List Entry) → actor e.op ≢ Some n → swept_by p n (e ∷ h) ≡ swept_by p n h
 swept_by_stays p n e h a = other_sweep n e.op (fired_watches p (e ∷ h)) (swept_by p n h) a
 
-same_test : (t : ℕ) → (t == t) ≡ true
-same_test t = grind (arith, nat_tests)
-
 pub swept_now : (n m t : ℕ) (fs : List Firing) (s : Swept) → m ≡ n → swept_or (if m == n then Some (record { fired = fired_by t fs; epoch = epoch_of fs }) else None) s ≡ record { fired = fired_by t fs; epoch = epoch_of fs }
-swept_now n m t fs s e = ap (λ b. swept_or (if b then Some (record { fired = fired_by t fs; epoch = epoch_of fs }) else None) s) (ap (λ x. x == n) e ∙ same_test n)
+swept_now n m t fs s e = ap (λ b. swept_or (if b then Some (record { fired = fired_by t fs; epoch = epoch_of fs }) else None) s) (ap (λ x. x == n) e ∙ itself n)
 
 -- In hand. ---------------------------------------------------------------------------------------------
 
@@ -249,12 +245,9 @@ done_mark_step p t h o l d i a b = by_old (nat_le t (done_of h)) refl
     by_old true e = i a (grind (arith, nat_tests))
     by_old false e = elim (newly_done p t h o l d (grind (arith, nat_tests)) b) [ inl x ↦ (leader_stands_where_it_may p x.0 t leader.Done h l x.1).1 | inr y ↦ absurd (dead_not y) ]
 
-mark_grows : (h : List Entry) (o : Op) → mark_of h ≤ mark_in o (mark_of h)
-mark_grows h o = grind (arith, nat_tests)
-
 done_step : (p : Plan) (t : ℕ) (h : List Entry) (o : Op) → IsHistory p h → IsDue p h o → (is_committed t h ≡ true → t ≤ done_of h → t ≤ mark_of h) → (commits t o || is_committed t h) ≡ true → t ≤ done_in o (done_of h) → t ≤ mark_in o (mark_of h)
 done_step p t h (op.CommitOk n s) l d i a b = let c = commits_are_beyond_the_sweep p n s h l d in grind (arith, nat_tests)
-done_step p t h o l d i a b = let m = done_mark_step p t h o l d i a b in let g = mark_grows h o in omega (arith, m, g)
+done_step p t h o l d i a b = let m = done_mark_step p t h o l d i a b in let g = mark_grows (mark_of h) o in omega (arith, m, g)
 
 pub done_mark : (p : Plan) (t : ℕ) (h : List Entry) → IsHistory p h → is_committed t h ≡ true → t ≤ done_of h → t ≤ mark_of h
 done_mark p t [] l a b = absurd (false≢true a)
@@ -274,8 +267,8 @@ noted_step p t e h l i b = by_swept (is_swept t (e ∷ h)) refl
     fresh f (inr y) = absurd (false≢true (sym y.uncommitted ∙ swept_was_committed p t e h l f))
 
     by_old : (c : Bool) → nat_le t (done_of h) ≡ c → is_swept t (e ∷ h) ≡ true → (fired_at p t (e ∷ h) ≡ []) ⊎ (is_noted t (e ∷ h) ≡ true)
-    by_old true g f = let a : t ≤ done_of h = at_most t (done_of h) g in noted_more p t e h l (old a f) (i a)
-    by_old false g f = fresh f (newly_done p t h e.op l.0 (due p e h l) (above t (done_of h) g) b)
+    by_old true g f = let a : t ≤ done_of h = leb-true t (done_of h) g in noted_more p t e h l (old a f) (i a)
+    by_old false g f = fresh f (newly_done p t h e.op l.0 (due p e h l) (leb-false t (done_of h) g) b)
 
     by_swept : (c : Bool) → is_swept t (e ∷ h) ≡ c → (fired_at p t (e ∷ h) ≡ []) ⊎ (is_noted t (e ∷ h) ≡ true)
     by_swept false f = inl (unswept_fired p t (e ∷ h) f)

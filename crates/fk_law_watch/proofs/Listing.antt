@@ -1,7 +1,7 @@
 -- Lists of watches: what a sweep fires of them, and what it leaves.
 use Rattle.std.specs.Prelude.{◌==◌, ◌||◌, ◌&&◌, if◌then◌else◌, is_some}
 use Rattle.std.proofs.Common.{◌≡◌, ℕ, ◌++◌, Bool, true, false, List, [], ◌∷◌, refl, sym, ◌∙◌, ap, subst, arith, Option, Some, None}
-use Rattle.std.proofs.lemmas.Bool.{false≢true}
+use Rattle.std.proofs.lemmas.Bool.{false≢true, false_from_ne_true}
 use Rattle.std.proofs.lemmas.Bool.Decides.{nat_tests}
 use Rattle.fk_base.specs.Path.{PathNames, same_path}
 use Rattle.fk_tree.specs.Watch.{first_taken, same_kind}
@@ -11,14 +11,10 @@ use Rattle.fk_tree.specs.declared.change.Kind.TheVariants as kind
 use Rattle.fk_tree.specs.declared.change.Touch.{Touch}
 use Rattle.fk_spec.specs.Start.{or_else}
 use Rattle.fk_spec.specs.Watches.{Watch, Firing, has_id, kept_unless, not_fired, fired_as, firings, firing_with, set_number}
+use Rattle.fk_spec.specs.WatchNumbers.{watch_with}
 use Rattle.fk_law.proofs.Losing.{same_sym}
-use Rattle.fk_law_watch.specs.SetWatches.{watch_with}
 
-pub is_false : (b : Bool) → (b ≡ true → ⊥) → b ≡ false
-is_false true f = absurd (f refl)
-is_false false f = refl
-
-or_maps : (a b c : Bool) → (b ≡ true → c ≡ true) → (a || b) ≡ true → (a || c) ≡ true
+pub or_maps : (a b c : Bool) → (b ≡ true → c ≡ true) → (a || b) ≡ true → (a || c) ≡ true
 or_maps true b c f e = refl
 or_maps false b c f e = f e
 
@@ -51,7 +47,7 @@ kept_unique (Some c) w ws a b = b
 
 pub not_fired_unique : (ts : List Touch) (ws : List Watch) → AreUnique ws → AreUnique (not_fired ts ws)
 not_fired_unique ts [] u = tt
-not_fired_unique ts (w ∷ ws) u = kept_unique (first_taken w.path w.kind ts) w (not_fired ts ws) (is_false (has_id w.id (not_fired ts ws)) (λ e. false≢true (sym u.0 ∙ not_fired_has w.id ts ws e))) (not_fired_unique ts ws u.1)
+not_fired_unique ts (w ∷ ws) u = kept_unique (first_taken w.path w.kind ts) w (not_fired ts ws) (false_from_ne_true (has_id w.id (not_fired ts ws)) (λ e. false≢true (sym u.0 ∙ not_fired_has w.id ts ws e))) (not_fired_unique ts ws u.1)
 
 has_append : (id : ℕ) (ws : List Watch) (w : Watch) → has_id id (ws ++ w ∷ []) ≡ true → (has_id id ws || (w.id == id)) ≡ true
 has_append id [] w e = grind arith
@@ -63,7 +59,7 @@ has_append id (v ∷ ws) w e = one (v.id == id) (has_append id ws w) e
 
 pub append_unique : (ws : List Watch) (w : Watch) → AreUnique ws → has_id w.id ws ≡ false → AreUnique (ws ++ w ∷ [])
 append_unique [] w u e = (refl, tt)
-append_unique (v ∷ ws) w u e = (is_false (has_id v.id (ws ++ w ∷ [])) (λ a. let b = has_append v.id ws w a in let f = u.0 in clash (v.id == w.id) refl b f e), append_unique ws w u.1 (or_right_false (v.id == w.id) (has_id w.id ws) e))
+append_unique (v ∷ ws) w u e = (false_from_ne_true (has_id v.id (ws ++ w ∷ [])) (λ a. let b = has_append v.id ws w a in let f = u.0 in clash (v.id == w.id) refl b f e), append_unique ws w u.1 (or_right_false (v.id == w.id) (has_id w.id ws) e))
   where
     or_right_false : (a b : Bool) → (a || b) ≡ false → b ≡ false
     or_right_false a b e = grind arith
@@ -202,7 +198,7 @@ pub append_apart : (ws : List Watch) (w : Watch) → AreApart ws → set_number 
 append_apart [] w u e = (refl, tt)
 append_apart (v ∷ ws) w u e =
     let r = head_number w.session w.path w.kind v ws e in
-    (append_number v.session v.path v.kind ws w u.0 (is_false (is_of v.session v.path v.kind w) (λ a. false≢true (sym r.0 ∙ of_sym v w a))), append_apart ws w u.1 r.1)
+    (append_number v.session v.path v.kind ws w u.0 (false_from_ne_true (is_of v.session v.path v.kind w) (λ a. false≢true (sym r.0 ∙ of_sym v w a))), append_apart ws w u.1 r.1)
 
 some_same : (x y : Watch) → Some x ≡ Some y → x ≡ y
 some_same x y e = cc

@@ -1,7 +1,7 @@
 -- What a push fired, and the notes and the tellings of it.
 use Rattle.std.specs.Prelude.{◌==◌, ◌||◌, if◌then◌else◌}
 use Rattle.std.proofs.Common.{◌≡◌, ℕ, ◌+◌, ◌≤◌, ◌++◌, Bool, true, false, List, [], ◌∷◌, refl, sym, ◌∙◌, ap, subst, arith, Option, Some, None}
-use Rattle.std.proofs.lemmas.Bool.{false≢true}
+use Rattle.std.proofs.lemmas.Bool.{false≢true, false_from_ne_true, or_right}
 use Rattle.std.proofs.lemmas.Bool.Decides.{nat_tests}
 use Rattle.fk_tree.specs.Watch.{first_taken}
 use Rattle.fk_tree.specs.declared.change.Change.{Change}
@@ -11,10 +11,9 @@ use Rattle.fk_print.specs.declared.op.Op.{Op}
 use Rattle.fk_print.specs.declared.op.Op.TheVariants as op
 use Rattle.fk_spec.specs.Plan.{Plan}
 use Rattle.fk_spec.specs.Start.{Start, Task, Follows, Leads, Notifies, Probes, started_in, or_else}
-use Rattle.fk_spec.specs.Settling.{is_committed, mark_of, mark_in}
+use Rattle.fk_spec.specs.Settling.{is_committed, mark_of}
 use Rattle.fk_spec.specs.Watches.{Watch, Firing, fired_as, firings, not_of, fired_after, fired_watches, fired_by, set_watches, touches_of_push, swept_by, firing_of, firing_in, firing_with}
 use Rattle.fk_spec.specs.Lanes.{notes_of, note_count}
-use Rattle.fk_spec.specs.Leader.{next_leader, to_put, to_notify, after_put}
 use Rattle.fk_spec.specs.Leader as leader
 use Rattle.fk_spec.specs.Teller.{Note, note_of, note_in, to_tell, next_teller}
 use Rattle.fk_spec.specs.Teller as teller
@@ -24,12 +23,13 @@ use Rattle.fk_spec.specs.Next.{IsHistory}
 use Rattle.fk_law.specs.Due.{IsDue}
 use Rattle.fk_law.specs.LeaderLane.{sweeps, is_swept}
 use Rattle.fk_law.proofs.Due.{due}
-use Rattle.fk_law.proofs.Leading.{leader_stands_where_it_may, mark_behind_sweep, swept_up_to_the_sweep}
+use Rattle.fk_law.proofs.Leading.{leader_stands_where_it_may, mark_behind_sweep, swept_up_to_the_sweep, mark_grows}
 use Rattle.fk_law.proofs.Moving.{place_step, moved_follower, moved_leader}
+use Rattle.fk_law.proofs.Numbers.{itself}
 use Rattle.fk_law_watch.specs.Noting.{fired_at_in, fired_at, tells_all, is_told, notes, is_noted, untold, FiredIsListedUntilTold, FiredAtItsPush, FiredOfAPush}
 use Rattle.fk_law_watch.proofs.Sweeps.{swept_most}
 use Rattle.fk_law_watch.proofs.Listing.{AreUnique, fired_of}
-use Rattle.fk_law_watch.proofs.SetWatches.{or_right, by_or, new_sweep_beyond, watches_unique, fires_once, fired_watch_fired_at_its_first_change}
+use Rattle.fk_law_watch.proofs.SetWatches.{by_or, new_sweep_beyond, watches_unique, fires_once, fired_watch_fired_at_its_first_change}
 
 -- What a push fired. -----------------------------------------------------------------------------------
 
@@ -70,12 +70,9 @@ fired_by_append t (f ∷ fs) gs = one (f.tx == t) (fired_by_append t fs gs)
     one true i = ap (λ ys. f ∷ ys) i
     one false i = i
 
-same_test : (t : ℕ) → (t == t) ≡ true
-same_test t = grind (arith, nat_tests)
-
 own_case : (t : ℕ) (w : Watch) (o : Option Change) (fs : List Firing) → fired_by t fs ≡ fs → fired_by t (fired_as t w o fs) ≡ fired_as t w o fs
 own_case t w None fs i = i
-own_case t w (Some c) fs i = rw (same_test t) (ap (λ ys. record { watch = w; tx = t; change = c } ∷ ys) i)
+own_case t w (Some c) fs i = rw (itself t) (ap (λ ys. record { watch = w; tx = t; change = c } ∷ ys) i)
 
 own_firings : (t : ℕ) (ts : List Touch) (ws : List Watch) → fired_by t (firings t ts ws) ≡ firings t ts ws
 own_firings t ts [] = refl
@@ -142,11 +139,8 @@ pub record IsPublishedNote (h : List Entry) (t : ℕ) : Type 0 where
   pub swept : is_swept t h ≡ true
   pub noted : is_noted t h ≡ true
 
-mark_grows : (h : List Entry) (o : Op) → mark_of h ≤ mark_in o (mark_of h)
-mark_grows h o = grind (arith, nat_tests)
-
 published_more : (e : Entry) (h : List Entry) (t : ℕ) → IsPublishedNote h t → IsPublishedNote (e ∷ h) t
-published_more e h t i = record { published = (let g = mark_grows h e.op in let a = i.published in omega (arith, g, a)); swept = or_right (sweeps t e.op) (is_swept t h) i.swept; noted = or_right (notes t e.op) (is_noted t h) i.noted }
+published_more e h t i = record { published = (let g = mark_grows (mark_of h) e.op in let a = i.published in omega (arith, g, a)); swept = or_right (sweeps t e.op) (is_swept t h) i.swept; noted = or_right (notes t e.op) (is_noted t h) i.noted }
 
 pub stands_swept : (p : Plan) (t : ℕ) (h : List Entry) → IsHistory p h → is_committed t h ≡ true → t ≤ mark_of h → is_swept t h ≡ true
 stands_swept p t h l a b = let m = (mark_behind_sweep p h l).0 in swept_up_to_the_sweep p t h l a (omega (arith, b, m))
@@ -154,7 +148,7 @@ stands_swept p t h l a b = let m = (mark_behind_sweep p h l).0 in swept_up_to_th
 notify_published : (p : Plan) (n t k : ℕ) (e : Entry) (h : List Entry) → e.op ≡ op.Notify n t k → IsHistory p (e ∷ h) → IsDue p h (op.Notify n t k) → IsPublishedNote (e ∷ h) t
 notify_published p n t k e h q l d =
     let s = leader_stands_where_it_may p n t leader.Notify h l.0 d.0 in
-    record { published = (let g = mark_grows h e.op in let a = s.1 in omega (arith, g, a)); swept = or_right (sweeps t e.op) (is_swept t h) (stands_swept p t h l.0 s.0 s.1); noted = subst (λ o. (notes t o || is_noted t h) ≡ true) (sym q) (own (is_noted t h)) }
+    record { published = (let g = mark_grows (mark_of h) e.op in let a = s.1 in omega (arith, g, a)); swept = or_right (sweeps t e.op) (is_swept t h) (stands_swept p t h l.0 s.0 s.1); noted = subst (λ o. (notes t o || is_noted t h) ≡ true) (sym q) (own (is_noted t h)) }
   where
     own : (b : Bool) → ((t == t) || b) ≡ true
     own b = grind (arith, nat_tests)
@@ -256,10 +250,6 @@ told_published p t (x ∷ h) l e = told_step p t x h x.op l (due p x h l) (told_
 
 -- What is listed. --------------------------------------------------------------------------------------
 
-no_bool : (b : Bool) → (b ≡ true → ⊥) → b ≡ false
-no_bool true f = absurd (f refl)
-no_bool false f = refl
-
 listed_step : (p : Plan) (t : ℕ) (h : List Entry) (o : Op) → IsHistory p h → IsDue p h o → fired_by t (fired_watches p h) ≡ untold (is_told t h) (fired_at p t h) → fired_by t (fired_after p h o (fired_watches p h)) ≡ untold (tells_all t o || is_told t h) (fired_at_in p t h o (fired_at p t h))
 listed_step p t h (op.SweepOk n s k) l d i = fired_by_append t (fired_watches p h) new ∙ by_test (s == t) refl
   where
@@ -267,13 +257,13 @@ listed_step p t h (op.SweepOk n s k) l d i = fired_by_append t (fired_watches p 
     new = firings s (touches_of_push p s h) (set_watches p h)
 
     unswept : s ≡ t → is_swept t h ≡ false
-    unswept e = no_bool (is_swept t h) (λ a. let y = swept_most t h a in let z = d.1 in omega (arith, y, z, e))
+    unswept e = false_from_ne_true (is_swept t h) (λ a. let y = swept_most t h a in let z = d.1 in omega (arith, y, z, e))
 
     by_test : (b : Bool) → (s == t) ≡ b → fired_by t (fired_watches p h) ++ fired_by t new ≡ untold (is_told t h) (if b then new else fired_at p t h)
     by_test true e =
         let f : s ≡ t = grind (arith, nat_tests) in
         let u = unswept f in
-        let v = no_bool (is_told t h) (λ a. false≢true (sym u ∙ (told_published p t h l a).swept)) in
+        let v = false_from_ne_true (is_told t h) (λ a. false≢true (sym u ∙ (told_published p t h l a).swept)) in
         let w = unswept_fired p t h u in
         rw (i, v, w) (subst (λ x. fired_by x new ≡ new) f (own_firings s (touches_of_push p s h) (set_watches p h)))
     by_test false e = rw (other_firings t s (touches_of_push p s h) (set_watches p h) e) (nil_right (fired_by t (fired_watches p h)) ∙ i)

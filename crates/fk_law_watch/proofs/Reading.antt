@@ -1,8 +1,9 @@
--- A client's read is made while no command is unanswered, and is looked at before its watch is set.
+-- A client's read is made while no command is unanswered, and is looked at before turned_some watch is set.
 use Rattle.std.specs.Prelude.{◌==◌, nat_lt, if◌then◌else◌, max}
 use Rattle.std.proofs.Common.{◌≡◌, ℕ, ◌+◌, ◌≤◌, ◌++◌, Bool, true, false, List, [], ◌∷◌, refl, sym, ◌∙◌, ap, subst, arith, Option, Some, None}
-use Rattle.std.proofs.lemmas.Bool.{false≢true, cond_both}
+use Rattle.std.proofs.lemmas.Bool.{false≢true, cond_both, ltb-false}
 use Rattle.std.proofs.lemmas.Bool.Decides.{nat_tests}
+use Rattle.std.proofs.lemmas.Option.{same_Some, none-some}
 use Rattle.fk_tree.specs.Ask.{path_asked}
 use Rattle.fk_tree.specs.Watch.{kind_asked}
 use Rattle.fk_tree.specs.declared.request.Query.{Query}
@@ -26,6 +27,7 @@ use Rattle.fk_spec.specs.Sight.{watch_number, sight_of, Sight}
 use Rattle.fk_spec.specs.Client.{by_result, without_ready, ready_first, registers, is_close, is_write, number_read, target_sent, target_of, pong_or, take_op, take_or, contains, held_op, look_op, look_or, register_for, register_asked, watch_or, all_go_on, is_none_sent, may_begin, local_if, begin_op, begin_asked, failed_op, settle_with, close_if, looked_for, looked_at, flushed, kept_outcome, settled_as, acted_by, client_in, client_by, client_of, client_op, Sent, Reading, Client, Target}
 use Rattle.fk_spec.specs.Replies.{reply_line, reply_lines, first_line, read_line, read_lines, looked_lines, notice_of, own_lines, wording, client_lines}
 use Rattle.fk_spec.specs.Next.{IsHistory, next_op, next_lines, lines_of_client, tx_lines, follow_op, lead_op, tell_op, crash_op}
+use Rattle.fk_law.proofs.Leading.{mark_grows}
 use Rattle.fk_law_watch.specs.FirstNumbers.{ReadsAreReads, WatchesAreSetUpToTheMark}
 use Rattle.fk_law_watch.specs.Registering.{number_from, number_of_read}
 use Rattle.fk_law_watch.proofs.Registering.{NoClients, function_none, follow_none, lead_none, tell_none, crash_none, fault_none}
@@ -52,41 +54,32 @@ ActsAs x seen mark _ = Unit {0}
 abbrev Acts : Client Sent → ℕ → ℕ → ℕ → Op → Type 0
 Acts x seen mark c o = ActsAs x seen mark o × ((d : ℕ) → client_in o ≡ Some d → d ≡ c)
 
-not_below : (a b : ℕ) → nat_lt a b ≡ false → b ≤ a
-not_below a b e = grind (arith, nat_tests)
+pub turned_some : (c d : ℕ) → Some c ≡ Some d → d ≡ c
+turned_some c d e = grind arith
 
-some_same : {A : Type 0} → (x y : A) → Some x ≡ Some y → x ≡ y
-some_same x y e = cc
-
-its : (c d : ℕ) → Some c ≡ Some d → d ≡ c
-its c d e = grind arith
-
-none_some : {A : Type 0} → (x : A) → None ≡ Some x → ⊥
-none_some x e = grind arith
-
-cons_nil : (s : Sent) (ss : List Sent) → s ∷ ss ≡ [] → ⊥
+pub cons_nil : (s : Sent) (ss : List Sent) → s ∷ ss ≡ [] → ⊥
 cons_nil s ss e = grind arith
 
 held_acts : (x : Client Sent) (seen mark c i m : ℕ) (o : Option ℕ) → IsLookedAt x seen mark → Acts x seen mark c (held_op c i m o)
-held_acts x seen mark c i m None b = (b, its c)
-held_acts x seen mark c i m (Some id) b = (tt, its c)
+held_acts x seen mark c i m None b = (b, turned_some c)
+held_acts x seen mark c i m (Some id) b = (tt, turned_some c)
 
 look_acts : (s : Sight) (x : Client Sent) (seen : ℕ) (held : List ℕ) (t : Target) → (t.number ≤ s.mark → IsLookedAt x seen s.mark) → Acts x seen s.mark s.session (look_op s held t)
-look_acts s x seen held t b = cond_both (nat_lt s.mark t.number) (op.LookBehind s.session t.command s.mark) (held_op s.session t.command s.mark _) (Acts x seen s.mark s.session) (λ _. (tt, its s.session)) (λ e. held_acts x seen s.mark s.session t.command s.mark _ (b (not_below s.mark t.number e)))
+look_acts s x seen held t b = cond_both (nat_lt s.mark t.number) (op.LookBehind s.session t.command s.mark) (held_op s.session t.command s.mark _) (Acts x seen s.mark s.session) (λ _. (tt, turned_some s.session)) (λ e. held_acts x seen s.mark s.session t.command s.mark _ (b (ltb-false s.mark t.number e)))
 
 target_acts : (s : Sight) (x : Client Sent) (seen : ℕ) (held : List ℕ) (t : Option Target) (o : Op) → (t ≡ None → Acts x seen s.mark s.session o) → ((u : Target) → t ≡ Some u → u.number ≤ s.mark → IsLookedAt x seen s.mark) → Acts x seen s.mark s.session (look_or s held t o)
 target_acts s x seen held None o d b = d refl
 target_acts s x seen held (Some t) o d b = look_acts s x seen held t (b t refl)
 
 idle_acts : (x : Client Sent) (seen mark c : ℕ) → Acts x seen mark c op.Idle
-idle_acts x seen mark c = (tt, λ d e. absurd (none_some d e))
+idle_acts x seen mark c = (tt, λ d e. absurd (none-some d e))
 
 -- what is looked for while nothing is unanswered is the read's number
 target_read : (s : Sight) (x : Client Sent) (r : Option Reading) (t : Target) → x.reading ≡ r → target_of by_result s.seen x r ≡ Some t → t.number ≤ s.mark → IsLookedAt x s.seen s.mark
 target_read s x r t e q b = λ z f g. by_look z (sym e ∙ f) g (subst (λ y. target_of by_result s.seen x y ≡ Some t) (sym e ∙ f) q)
   where
     by_sent : (ss : List Sent) → ss ≡ [] → target_sent by_result ss ≡ Some t → ⊥
-    by_sent [] g u = none_some t u
+    by_sent [] g u = none-some t u
     by_sent (y ∷ ss) g u = cons_nil y ss g
 
     by_look : (z : Reading) → r ≡ Some z → x.sent ≡ [] → target_of by_result s.seen x (Some z) ≡ Some t → max s.seen z.stamp ≤ s.mark
@@ -94,7 +87,7 @@ target_read s x r t e q b = λ z f g. by_look z (sym e ∙ f) g (subst (λ y. ta
       where
         by_flag : (b : Bool) → (if b then target_sent by_result x.sent else Some (record { command = x.begun + 1; number = max s.seen z.stamp })) ≡ Some t → max s.seen z.stamp ≤ s.mark
         by_flag true v = absurd (by_sent x.sent g v)
-        by_flag false v = subst (λ y. y.number ≤ s.mark) (sym (some_same (record { command = x.begun + 1; number = max s.seen z.stamp }) t v)) b
+        by_flag false v = subst (λ y. y.number ≤ s.mark) (sym (same_Some (record { command = x.begun + 1; number = max s.seen z.stamp }) t v)) b
 
 -- a read for which nothing is looked for was looked at
 read_looked : (s : Sight) (x : Client Sent) (r : Reading) → target_of by_result s.seen x (Some r) ≡ None → r.looked ≡ true
@@ -102,29 +95,29 @@ read_looked s x r q = by_flag r.looked refl q
   where
     by_flag : (b : Bool) → r.looked ≡ b → (if b then target_sent by_result x.sent else Some (record { command = x.begun + 1; number = max s.seen r.stamp })) ≡ None → r.looked ≡ true
     by_flag true e v = e
-    by_flag false e v = absurd (none_some (record { command = x.begun + 1; number = max s.seen r.stamp }) (sym v))
+    by_flag false e v = absurd (none-some (record { command = x.begun + 1; number = max s.seen r.stamp }) (sym v))
 
 register_acts : (p : Plan) (h : List Entry) (x : Client Sent) (seen mark c i number : ℕ) (a : Option Ask) → WasLookedAt x → Acts x seen mark c (register_asked (sight_of p c h) i number a)
 register_acts p h x seen mark c i number None w = idle_acts x seen mark c
 register_acts p h x seen mark c i number (Some a) w = wanted a.want
   where
     wanted : (v : Want) → Acts x seen mark c (register_for (sight_of p c h) i number v)
-    wanted (Reads q b) = cond_both (nat_lt number (last_sweep p (path_asked q) h)) (op.WatchSwept c i (last_sweep p (path_asked q) h)) (op.WatchSet c i (watch_number p c h (path_asked q) (kind_asked q))) (Acts x seen mark c) (λ _. (tt, its c)) (λ _. (w, its c))
+    wanted (Reads q b) = cond_both (nat_lt number (last_sweep p (path_asked q) h)) (op.WatchSwept c i (last_sweep p (path_asked q) h)) (op.WatchSet c i (watch_number p c h (path_asked q) (kind_asked q))) (Acts x seen mark c) (λ _. (tt, turned_some c)) (λ _. (w, turned_some c))
     wanted Unfit = idle_acts x seen mark c
     wanted (Writes r) = idle_acts x seen mark c
 
 local_acts : (x : Client Sent) (seen mark c i : ℕ) (closed : Bool) (o : Op) → x.reading ≡ None → Acts x seen mark c o → Acts x seen mark c (local_if closed c i o)
-local_acts x seen mark c i true o e a = (e, its c)
+local_acts x seen mark c i true o e a = (e, turned_some c)
 local_acts x seen mark c i false o e a = a
 
-none_sent : (ss : List Sent) → is_none_sent ss ≡ true → ss ≡ []
+pub none_sent : (ss : List Sent) → is_none_sent ss ≡ true → ss ≡ []
 none_sent [] e = refl
 none_sent (s ∷ ss) e = absurd (false≢true e)
 
 begin_acts : (p : Plan) (h : List Entry) (x : Client Sent) (seen mark c i : ℕ) (closed : Bool) (w : Want) → x.reading ≡ None → ((q : Query) (b : Bool) → w ≡ Reads q b → x.sent ≡ []) → Acts x seen mark c (begin_op (sight_of p c h) i closed w)
-begin_acts p h x seen mark c i closed Unfit e f = (e, its c)
-begin_acts p h x seen mark c i closed (Writes r) e f = local_acts x seen mark c i closed (op.Send c i (sends_of c h + 1)) e (e, its c)
-begin_acts p h x seen mark c i closed (Reads q b) e f = local_acts x seen mark c i closed (op.Read c i (stamp_of (path_asked q) h)) e (f q b refl, its c)
+begin_acts p h x seen mark c i closed Unfit e f = (e, turned_some c)
+begin_acts p h x seen mark c i closed (Writes r) e f = local_acts x seen mark c i closed (op.Send c i (sends_of c h + 1)) e (e, turned_some c)
+begin_acts p h x seen mark c i closed (Reads q b) e f = local_acts x seen mark c i closed (op.Read c i (stamp_of (path_asked q) h)) e (f q b refl, turned_some c)
 
 next_acts : (p : Plan) (h : List Entry) (x : Client Sent) (seen mark c : ℕ) (a : Option Ask) → ReadsAreReads p → asked p c (x.begun + 1) ≡ a → x.reading ≡ None → Acts x seen mark c (begin_asked by_result (sight_of p c h) x a)
 next_acts p h x seen mark c None k q e = idle_acts x seen mark c
@@ -142,13 +135,13 @@ watch_acts p h x c None k e f = next_acts p h x (seen_by c h) (mark_of h) c (ask
 watch_acts p h x c (Some r) k e f = register_acts p h x (seen_by c h) (mark_of h) c (x.begun + 1) (number_read (seen_by c h) r) (asked p c (x.begun + 1)) (λ s a _. f s (sym e ∙ a))
 
 message_acts : (x : Client Sent) (seen mark c : ℕ) (m : Message) → Acts x seen mark c (take_op c m)
-message_acts x seen mark c (Done k t) = (tt, its c)
-message_acts x seen mark c (Evicted k t) = (tt, its c)
-message_acts x seen mark c (Kept k (Passed loss)) = (tt, its c)
-message_acts x seen mark c (Kept k (Committed t)) = (tt, its c)
-message_acts x seen mark c (Kept k (Refused cd place at)) = (tt, its c)
-message_acts x seen mark c (Watch watch) = (tt, its c)
-message_acts x seen mark c (Ping ping) = (tt, its c)
+message_acts x seen mark c (Done k t) = (tt, turned_some c)
+message_acts x seen mark c (Evicted k t) = (tt, turned_some c)
+message_acts x seen mark c (Kept k (Passed loss)) = (tt, turned_some c)
+message_acts x seen mark c (Kept k (Committed t)) = (tt, turned_some c)
+message_acts x seen mark c (Kept k (Refused cd place at)) = (tt, turned_some c)
+message_acts x seen mark c (Watch watch) = (tt, turned_some c)
+message_acts x seen mark c (Ping ping) = (tt, turned_some c)
 
 take_acts : (x : Client Sent) (seen mark c : ℕ) (m : Option Message) (o : Op) → Acts x seen mark c o → Acts x seen mark c (take_or c m o)
 take_acts x seen mark c None o d = d
@@ -156,11 +149,11 @@ take_acts x seen mark c (Some m) o d = message_acts x seen mark c m
 
 pong_acts : (x : Client Sent) (seen mark c : ℕ) (pings : List ℕ) (o : Op) → Acts x seen mark c o → Acts x seen mark c (pong_or c pings o)
 pong_acts x seen mark c [] o d = d
-pong_acts x seen mark c (n ∷ ns) o d = (tt, its c)
+pong_acts x seen mark c (n ∷ ns) o d = (tt, turned_some c)
 
 looked_acts : (p : Plan) (c : ℕ) (h : List Entry) (x : Client Sent) → ReadsAreReads p → (r : Option Reading) → x.reading ≡ r → target_of by_result (seen_by c h) x r ≡ None → Acts x (seen_by c h) (mark_of h) c (watch_or (sight_of p c h) x r (begin_asked by_result (sight_of p c h) x (asked p c (x.begun + 1))))
-looked_acts p c h x k None e q = watch_acts p h x c None k e (λ s a. absurd (none_some s a))
-looked_acts p c h x k (Some r) e q = watch_acts p h x c (Some r) k e (λ s a. subst (λ z. z.looked ≡ true) (some_same r s a) (read_looked (sight_of p c h) x r q))
+looked_acts p c h x k None e q = watch_acts p h x c None k e (λ s a. absurd (none-some s a))
+looked_acts p c h x k (Some r) e q = watch_acts p h x c (Some r) k e (λ s a. subst (λ z. z.looked ≡ true) (same_Some r s a) (read_looked (sight_of p c h) x r q))
 
 client_acts : (p : Plan) (c : ℕ) (h : List Entry) → ReadsAreReads p → Acts (client_of p c h) (seen_by c h) (mark_of h) c (client_op p c h)
 client_acts p c h k =
@@ -172,7 +165,7 @@ client_acts p c h k =
     pong_acts x (seen_by c h) (mark_of h) c x.owed (take_or c s.head l) (take_acts x (seen_by c h) (mark_of h) c s.head l
     (target_acts s x (seen_by c h) x.held t o (looked_acts p c h x k x.reading refl) (λ u. target_read s x x.reading u refl)))
 
-failed_in : (o : Op) (d : ℕ) → client_in (failed_op o) ≡ Some d → client_in o ≡ Some d
+pub failed_in : (o : Op) (d : ℕ) → client_in (failed_op o) ≡ Some d → client_in o ≡ Some d
 failed_in o d e = grind arith
 
 failed_as : (x : Client Sent) (seen mark : ℕ) (o : Op) → ActsAs x seen mark o → ActsAs x seen mark (failed_op o)
@@ -267,7 +260,7 @@ none_unseen p h c n o e = ap (λ s. seen_lines c (lines_of_client p h o s) n) e
 
 -- A client's read. -------------------------------------------------------------------------------------
 
--- while a read is made no command is unanswered, and once it was looked at its number is published
+-- while a read is made no command is unanswered, and once it was looked at turned_some number is published
 abbrev pub ReadSo : List Sent → ℕ → ℕ → Option Reading → Type 0
 ReadSo sent seen mark None = Unit {0}
 ReadSo sent seen mark (Some r) = (sent ≡ []) × (r.looked ≡ true → max seen r.stamp ≤ mark)
@@ -283,7 +276,7 @@ kept_read : (p : Plan) (k : ℕ) (o : Option Outcome) (x : Client Sent) → (flu
 kept_read p k None x = refl
 kept_read p k (Some o) x = refl
 
-looked_read : (p : Plan) (c : ℕ) (ss : List Sent) (x : Client Sent) → (flushed by_result (looked_for by_result (asks_in p c) ss x)).reading ≡ x.reading
+pub looked_read : (p : Plan) (c : ℕ) (ss : List Sent) (x : Client Sent) → (flushed by_result (looked_for by_result (asks_in p c) ss x)).reading ≡ x.reading
 looked_read p c [] x = refl
 looked_read p c (s ∷ ss) x = closing (is_close (asked p c s.command))
   where
@@ -294,8 +287,8 @@ looked_read p c (s ∷ ss) x = closing (is_close (asked p c s.command))
 no_read : (ss : List Sent) (seen mark : ℕ) (r : Option Reading) → r ≡ None → ReadSo ss seen mark r
 no_read ss seen mark r e = subst (ReadSo ss seen mark) (sym e) tt
 
--- what client c prints with its own operation, standing so
-abbrev lines_by : Plan → List Entry → ℕ → Client Sent → Op → List Line
+-- what client c prints with turned_some own operation, standing so
+abbrev pub lines_by : Plan → List Entry → ℕ → Client Sent → Op → List Line
 lines_by p h c x o = own_lines (wording p c h) (sight_of p c h) x o ++ reply_lines (wording p c h) (ready_first by_result (acted_by (sight_of p c h) o x).sent)
 
 abbrev AfterOwn : Plan → List Entry → ℕ → Client Sent → Op → ℕ → ℕ → Type 0
@@ -323,17 +316,14 @@ own_step p h c seen mark (op.WatchSet d i id) rd ss b hd ow cl e a w = tt
 own_step p h c seen mark (op.WatchSwept d i t) rd ss b hd ow cl e a w = tt
 own_step p h c seen mark (op.ReadFault d i) rd ss b hd ow cl e a w = tt
 own_step p h c seen mark (op.WatchFault d i) rd ss b hd ow cl e a w = tt
-own_step p h c seen mark (op.PublishOk n t) rd ss b hd ow cl e a w = absurd (none_some c e)
+own_step p h c seen mark (op.PublishOk n t) rd ss b hd ow cl e a w = absurd (none-some c e)
 own_step p h c seen mark o None ss b hd ow cl e a w = tt
 own_step p h c seen mark o (Some r) [] b hd ow cl e a w = (refl, w.1)
 own_step p h c seen mark o (Some r) (s ∷ ss) b hd ow cl e a w = absurd (cons_nil s ss w.0)
 
 pub next_is : (p : Plan) (h : List Entry) (s : ℕ) (o : Op) → client_in o ≡ Some s → next_lines p h o ≡ client_lines p s h o
-next_is p h s (op.PublishOk n t) e = absurd (none_some s e)
+next_is p h s (op.PublishOk n t) e = absurd (none-some s e)
 next_is p h s o e = ap (lines_of_client p h o) e
-
-pub mark_grows : (m : ℕ) (o : Op) → m ≤ mark_in o m
-mark_grows m o = grind (arith, nat_tests)
 
 -- client c's read after one more operation with these lines
 abbrev After : Plan → ℕ → List Entry → Op → List Line → Option ℕ → Type 0

@@ -1,7 +1,7 @@
 -- Registrations: what a line that sets a watch says of the entries before it.
 use Rattle.std.specs.Prelude.{◌==◌, nat_lt}
 use Rattle.std.proofs.Common.{◌≡◌, ℕ, ◌+◌, ◌≤◌, Bool, true, false, List, [], ◌∷◌, refl, sym, ap, subst, arith, Option, Some, None}
-use Rattle.std.proofs.lemmas.Bool.{cond_both}
+use Rattle.std.proofs.lemmas.Bool.{cond_both, ltb-false}
 use Rattle.std.proofs.lemmas.Bool.Decides.{nat_tests}
 use Rattle.fk_tree.specs.Ask.{path_asked}
 use Rattle.fk_tree.specs.Sorted.{in_path_order}
@@ -131,13 +131,10 @@ look_registers : (p : Plan) (h : List Entry) (s : Sight) (held : List ℕ) (t : 
 look_registers p h s held None o d = d
 look_registers p h s held (Some t) o d = none_registers p h (look_op s held t) (look_none s held t)
 
-not_below : (a b : ℕ) → nat_lt a b ≡ false → b ≤ a
-not_below a b e = grind (arith, nat_tests)
-
 register_set : (p : Plan) (h : List Entry) (c i number : ℕ) (w : Bool) (a : Ask) (q : Query) → asked p c i ≡ Some a → a.want ≡ Reads q w → number ≡ number_of_read p c h → Registers p h (register_op (sight_of p c h) i number (path_asked q) (kind_asked q))
 register_set p h c i number w a q e f g =
     cond_both (nat_lt number (last_sweep p (path_asked q) h)) (op.WatchSwept c i (last_sweep p (path_asked q) h)) (op.WatchSet c i (watch_number p c h (path_asked q) (kind_asked q))) (Registers p h) (λ _. tt)
-    (λ b. record { watch = record { id = watch_number p c h (path_asked q) (kind_asked q); session = c; path = path_asked q; kind = kind_asked q }; wanted = wanted; unswept = subst (λ n. last_sweep p (path_asked q) h ≤ n) g (not_below number (last_sweep p (path_asked q) h) b); numbered = refl; its_id = refl; its_session = refl })
+    (λ b. record { watch = record { id = watch_number p c h (path_asked q) (kind_asked q); session = c; path = path_asked q; kind = kind_asked q }; wanted = wanted; unswept = subst (λ n. last_sweep p (path_asked q) h ≤ n) g (ltb-false number (last_sweep p (path_asked q) h) b); numbered = refl; its_id = refl; its_session = refl })
   where
     wanted : watch_asked (watch_number p c h (path_asked q) (kind_asked q)) c (asked p c i) ≡ Some (record { id = watch_number p c h (path_asked q) (kind_asked q); session = c; path = path_asked q; kind = kind_asked q })
     wanted = rw (e, f) refl

@@ -1,9 +1,10 @@
 -- The watches that are set, and how they fire.
 use Rattle.std.specs.Prelude.{◌==◌, ◌||◌, ◌&&◌, nat_le, if◌then◌else◌, is_some, max}
 use Rattle.std.proofs.Common.{◌≡◌, ℕ, ◌+◌, ◌<◌, ◌≤◌, ◌++◌, ◌⊎◌, inl, inr, Bool, true, false, List, [], ◌∷◌, refl, sym, ◌∙◌, ap, subst, arith, Option, Some, None}
-use Rattle.std.proofs.lemmas.Bool.{false≢true}
+use Rattle.std.proofs.lemmas.Bool.{false≢true, false_from_ne_true, or_right}
 use Rattle.std.proofs.lemmas.Bool.Decides.{nat_tests}
 use Rattle.std.proofs.Math.Nat.{max-le}
+use Rattle.std.proofs.lemmas.Option.{same_Some, none-some}
 use Rattle.fk_base.specs.Path.{PathNames}
 use Rattle.fk_tree.specs.Watch.{first_taken, has_touch}
 use Rattle.fk_tree.specs.declared.change.Change.{Change}
@@ -18,24 +19,21 @@ use Rattle.fk_spec.specs.Settling.{is_committed, swept_of}
 use Rattle.fk_spec.specs.Watches.{Watch, Firing, has_id, with_watch, set_after, set_watches, set_number, not_fired, firings, firing_with, firing_in, firing_of, given_of, given_in, touches_of_push}
 use Rattle.fk_spec.specs.Sight.{number_or_next}
 use Rattle.fk_spec.specs.Next.{IsHistory}
+use Rattle.fk_spec.specs.WatchNumbers.{watch_with}
 use Rattle.fk_law.specs.Due.{IsDue}
 use Rattle.fk_law.specs.LeaderLane.{sweeps, is_swept}
 use Rattle.fk_law.proofs.Due.{due}
 use Rattle.fk_law.proofs.Leading.{swept_are_committed}
 use Rattle.fk_law_watch.specs.Counts.{GivenAreBounded}
 use Rattle.fk_law_watch.specs.Registering.{number_of_read, IsRegistration, Registers}
-use Rattle.fk_law_watch.specs.SetWatches.{watch_with, set_watch, registered_in, first_of, taken_of, IsOneOfTwo, WatchIsSetOrFired, SetOrFiredWereGiven, FiresOnce, FiringNeverChanges, SetWatchesDiffer, SawNoChange, SetWatchSawNoChange, FiredAtItsFirst, FiredWatchFiredAtItsFirstChange}
-use Rattle.fk_law_watch.proofs.Listing.{AreUnique, AreApart, has_is, not_fired_has, not_fired_unique, append_unique, append_with, kept_watch, stays_set, fired_one, fires_none, fires_watch, IsFiredOf, fired_of, not_fired_apart, append_apart, set_number_has, same_differ, is_false}
+use Rattle.fk_law_watch.specs.SetWatches.{set_watch, registered_in, first_of, taken_of, IsOneOfTwo, WatchIsSetOrFired, SetOrFiredWereGiven, FiresOnce, FiringNeverChanges, SetWatchesDiffer, SawNoChange, SetWatchSawNoChange, FiredAtItsFirst, FiredWatchFiredAtItsFirstChange}
+use Rattle.fk_law_watch.proofs.Listing.{AreUnique, AreApart, has_is, not_fired_has, not_fired_unique, append_unique, append_with, kept_watch, stays_set, fired_one, fires_none, fires_watch, IsFiredOf, fired_of, not_fired_apart, append_apart, set_number_has, same_differ}
 use Rattle.fk_law_watch.proofs.Registering.{watches_are_registered}
 use Rattle.fk_law_watch.proofs.Sweeps.{touches_stay, swept_committed, swept_was_committed, swept_most, last_most}
 
 pub by_or : {C : Type 0} → (a b : Bool) → (a || b) ≡ true → (a ≡ true → C) → (b ≡ true → C) → C
 by_or true b e f g = f refl
 by_or false b e f g = g e
-
-pub or_right : (a b : Bool) → b ≡ true → (a || b) ≡ true
-or_right true b e = refl
-or_right false b e = e
 
 pub or_stays : {A : Type 0} → (o x : Option A) (n : A) → o ≡ Some n → or_else o x ≡ Some n
 or_stays None x n e = absurd (grind arith)
@@ -184,7 +182,7 @@ status_step p id h (op.WatchSet c i j) r s = elim (set_cases p h c i j r) [ inl 
         let w = some_of (set_watch p j h) (sym (has_is j (set_watches p h)) ∙ a) in
         let g = none_status (is_given j (given_of h)) w.0 (firing_of p j h) (first_of p j h) (subst (λ x. Status (is_given j (given_of h)) x (firing_of p j h) (first_of p j h)) w.1 (s.status j)) in
         subst (λ ws. Status (is_given id (max j (given_of h))) (watch_with id ws) (firing_of p id h) (or_else (first_of p id h) (when (j == id) (number_of_read p c h)))) (sym b)
-        (kept_status id j (given_of h) (number_of_read p c h) (set_watch p id h) (firing_of p id h) (first_of p id h) (s.status id) g.0 (λ n. is_false (j == id) (λ f. unseen n f g.0)))
+        (kept_status id j (given_of h) (number_of_read p c h) (set_watch p id h) (firing_of p id h) (first_of p id h) (s.status id) g.0 (λ n. false_from_ne_true (j == id) (λ f. unseen n f g.0)))
       where
         unseen : first_of p id h ≡ None → (j == id) ≡ true → is_given j (given_of h) ≡ true → ⊥
         unseen n f g =
@@ -210,18 +208,12 @@ untouched : (path : PathNames) (k : Kind) (ts : List Touch) → has_touch path t
 untouched path k [] e = refl
 untouched path k (t ∷ ts) e = grind (arith, untouched path k ts)
 
-some_same : {A : Type 0} → (x y : A) → Some x ≡ Some y → x ≡ y
-some_same x y e = cc
-
-none_some : {A : Type 0} → (x : A) → None ≡ Some x → ⊥
-none_some x e = grind arith
-
 set_new : (p : Plan) (id : ℕ) (e : Entry) (h : List Entry) (c i : ℕ) → (r : IsRegistration p h c i id) → e.op ≡ op.WatchSet c i id → IsHistory p (e ∷ h) → first_of p id h ≡ None → SawNoChange p id (e ∷ h) r.watch
 set_new p id e h c i r q l f = record {
   number = r.its_id;
   first = number_of_read p c h;
   registered = ap (λ o. or_else o (registered_in p id h e.op)) f ∙ ap (registered_in p id h) q ∙ its_own;
-  none_since = λ t a b. ap (first_taken r.watch.path r.watch.kind) (touches_stay p t e h l (swept_was_committed p t e h l a)) ∙ untouched r.watch.path r.watch.kind (touches_of_push p t h) (is_false (has_touch r.watch.path (touches_of_push p t h)) (λ x. let y = last_most p r.watch.path t h l.0 (old t a) x in let z = r.unswept in omega (arith, y, z, b)));
+  none_since = λ t a b. ap (first_taken r.watch.path r.watch.kind) (touches_stay p t e h l (swept_was_committed p t e h l a)) ∙ untouched r.watch.path r.watch.kind (touches_of_push p t h) (false_from_ne_true (has_touch r.watch.path (touches_of_push p t h)) (λ x. let y = last_most p r.watch.path t h l.0 (old t a) x in let z = r.unswept in omega (arith, y, z, b)));
 }
   where
     its_own : registered_in p id h (op.WatchSet c i id) ≡ Some (number_of_read p c h)
@@ -242,7 +234,7 @@ set_step p id w e h (op.WatchSet c i j) q l r s a = elim (set_cases p h c i j r)
     new : IsNewWatch p h r.watch (set_after p h (op.WatchSet c i j) (set_watches p h)) → set_watch p id h ≡ None → (b : Bool) → (r.watch.id == id) ≡ b → (if b then Some r.watch else None) ≡ Some w → SawNoChange p id (e ∷ h) w
     new y n true f x =
         let g : j ≡ id = same_number f in
-        subst (SawNoChange p id (e ∷ h)) (some_same r.watch w x) (at_id j g r q y)
+        subst (SawNoChange p id (e ∷ h)) (same_Some r.watch w x) (at_id j g r q y)
       where
         same_number : (r.watch.id == id) ≡ true → j ≡ id
         same_number f = let k = r.its_id in grind (arith, nat_tests)
@@ -252,7 +244,7 @@ set_step p id w e h (op.WatchSet c i j) q l r s a = elim (set_cases p h c i j r)
 
         at_id : (j : ℕ) → j ≡ id → (r : IsRegistration p h c i j) → e.op ≡ op.WatchSet c i j → IsNewWatch p h r.watch (set_after p h (op.WatchSet c i j) (set_watches p h)) → SawNoChange p id (e ∷ h) r.watch
         at_id j g r q y = subst (λ z. SawNoChange p z (e ∷ h) r.watch) g (set_new p j e h c i r q l (fresh j (given_of h) (set_watch p j h) (firing_of p j h) (first_of p j h) (s.status j) (sym r.its_id ∙ y.next)))
-    new y n false f x = absurd (none_some w x)
+    new y n false f x = absurd (none-some w x)
 
     by_old : IsNewWatch p h r.watch (set_after p h (op.WatchSet c i j) (set_watches p h)) → (o : Option Watch) → set_watch p id h ≡ o → or_else o (if r.watch.id == id then Some r.watch else None) ≡ Some w → SawNoChange p id (e ∷ h) w
     by_old y None n x = new y n (r.watch.id == id) refl x
@@ -298,7 +290,7 @@ fired_step p id f e h (op.SweepOk n t fired) q l s a = by_new (firing_with id (f
 fired_step p id f e h o q l s a = fired_more p id e h f l (s.fired id f a)
 
 sound : (p : Plan) (h : List Entry) → IsHistory p h → AreSound p h
-sound p [] l = record { unique = tt; apart = tt; status = λ id. none_given id; set = λ id w e. absurd (none_some w e); fired = λ id f e. absurd (none_some f e) }
+sound p [] l = record { unique = tt; apart = tt; status = λ id. none_given id; set = λ id w e. absurd (none-some w e); fired = λ id f e. absurd (none-some f e) }
   where
     none_given : (id : ℕ) → Status (is_given id 0) None None None
     none_given id = grind (arith, nat_tests)

@@ -1,14 +1,15 @@
 -- Tellings: fired watches are announced in the order of their pushes.
 use Rattle.std.specs.Prelude.{◌==◌, ◌||◌, if◌then◌else◌, is_some, nat_le}
 use Rattle.std.proofs.Common.{◌≡◌, ℕ, ◌+◌, ◌<◌, ◌≤◌, ◌⊎◌, inl, inr, Bool, true, false, List, [], ◌∷◌, refl, sym, ◌∙◌, ap, subst, arith, Option, Some, None}
-use Rattle.std.proofs.lemmas.Bool.{false≢true}
+use Rattle.std.proofs.lemmas.Bool.{false≢true, or_right, leb-true, leb-false}
 use Rattle.std.proofs.lemmas.Bool.Decides.{nat_tests}
+use Rattle.std.proofs.lemmas.Option.{same_Some}
 use Rattle.fk_print.specs.declared.entry.Entry.{Entry}
 use Rattle.fk_print.specs.declared.op.Op.{Op}
 use Rattle.fk_print.specs.declared.op.Op.TheVariants as op
 use Rattle.fk_spec.specs.Plan.{Plan}
 use Rattle.fk_spec.specs.Start.{task_of, or_else}
-use Rattle.fk_spec.specs.Settling.{mark_of, mark_in, done_of}
+use Rattle.fk_spec.specs.Settling.{mark_of, done_of}
 use Rattle.fk_spec.specs.Watches.{Firing, firings, set_watches, touches_of_push, ids_of, firing_with, firing_in, firing_of, swept_by}
 use Rattle.fk_spec.specs.Lanes.{notifies, removed_by, removed_in, notes_of, note_count, watch_head}
 use Rattle.fk_spec.specs.Leader as leader
@@ -21,13 +22,12 @@ use Rattle.fk_law.specs.Due.{IsDue, Acks, Tells}
 use Rattle.fk_law.specs.Functions.{IsFor}
 use Rattle.fk_law.specs.LeaderLane.{sweeps, is_swept}
 use Rattle.fk_law.proofs.Due.{due}
-use Rattle.fk_law.proofs.Numbers.{at_most, above}
-use Rattle.fk_law.proofs.Leading.{done_is_removed_or_one_more, leader_at_or_below_the_head}
+use Rattle.fk_law.proofs.Leading.{done_is_removed_or_one_more, leader_at_or_below_the_head, mark_grows}
 use Rattle.fk_law.proofs.Starting.{place_for, leader_task, teller_at_or_below_the_head}
 use Rattle.fk_law_watch.specs.Noting.{fired_at, tells_all, is_told, notes, is_noted, IsFull}
 use Rattle.fk_law_watch.specs.Telling.{announces, is_announced, RemovedNoteIsTold, ToldPushIsAnnounced, AnnouncedHasFired, IsNotedBefore, NotesFirstStandInOrder, AnnouncedInNumberOrder}
 use Rattle.fk_law_watch.proofs.Listing.{fired_of}
-use Rattle.fk_law_watch.proofs.SetWatches.{or_right, or_none, by_or, watches_unique, new_sweep_beyond, firing_never_changes, fired_watch_fired_at_its_first_change}
+use Rattle.fk_law_watch.proofs.SetWatches.{or_none, by_or, watches_unique, new_sweep_beyond, firing_never_changes, fired_watch_fired_at_its_first_change}
 use Rattle.fk_law_watch.proofs.Noting.{fired_stays, stays_step, note_bound, note_stays, note_published, told_published, OnTeller, teller_step, fired_at_its_push, fired_of_a_push}
 use Rattle.fk_law_watch.proofs.Handing.{note_tells_what_its_push_fired, fired_push_is_noted_before_done}
 use Rattle.fk_law_watch.proofs.Epochs.{contains_is}
@@ -289,9 +289,6 @@ removed_low : (p : Plan) (h : List Entry) → IsHistory p h → removed_by notif
 removed_low p [] l = omega arith
 removed_low p (e ∷ h) l = removed_low_step p h e.op l.0 (due p e h l) (removed_low p h l.0)
 
-some_same : {A : Type 0} → (x y : A) → Some x ≡ Some y → x ≡ y
-some_same x y e = cc
-
 removed_told_step : (p : Plan) (w : ℕ) (h : List Entry) (o : Op) (x : Note) → IsHistory p h → IsDue p h o → (note_of p w h ≡ Some x → w ≤ removed_by notifies h → is_told x.tx h ≡ true) → or_else (note_in p w h o) (note_of p w h) ≡ Some x → w ≤ removed_in notifies h o (removed_by notifies h) → (tells_all x.tx o || is_told x.tx h) ≡ true
 removed_told_step p w h (op.AckOk n) x l d i a b = by_test (notifies (task_of n h)) refl b
   where
@@ -299,13 +296,13 @@ removed_told_step p w h (op.AckOk n) x l d i a b = by_test (notifies (task_of n 
     acked y b = by_old (nat_le w (removed_by notifies h)) refl
       where
         by_old : (c : Bool) → nat_le w (removed_by notifies h) ≡ c → is_told x.tx h ≡ true
-        by_old true e = i a (at_most w (removed_by notifies h) e)
+        by_old true e = i a (leb-true w (removed_by notifies h) e)
         by_old false e =
-            let g = above w (removed_by notifies h) e in
+            let g = leb-false w (removed_by notifies h) e in
             let k = (head_is h y.note y.head).1 in
             let f : y.note ≡ w = omega (arith, b, g, k) in
             let j = tells_at p n y.note y.tx teller.Ack h l y.stands in
-            let m = some_same j.note x (sym j.noted ∙ ap (λ z. note_of p z h) f ∙ a) in
+            let m = same_Some j.note x (sym j.noted ∙ ap (λ z. note_of p z h) f ∙ a) in
             subst (λ z. is_told z h ≡ true) (sym j.of_it ∙ ap (λ z. z.tx) m) j.tells
 
     by_test : (c : Bool) → notifies (task_of n h) ≡ c → w ≤ (if c then removed_by notifies h + 1 else removed_by notifies h) → is_told x.tx h ≡ true
@@ -331,11 +328,8 @@ removed_note_is_told p w (e ∷ h) x l a b = removed_told_step p w h e.op x l.0 
 abbrev HasFired : Plan → ℕ → List Entry → Type 0
 HasFired p id h = (f : Firing) × (firing_of p id h ≡ Some f) × (f.tx ≤ mark_of h)
 
-mark_grows : (h : List Entry) (o : Op) → mark_of h ≤ mark_in o (mark_of h)
-mark_grows h o = grind (arith, nat_tests)
-
 has_fired_more : (p : Plan) (id : ℕ) (e : Entry) (h : List Entry) → IsHistory p (e ∷ h) → HasFired p id h → HasFired p id (e ∷ h)
-has_fired_more p id e h l i = (i.0, firing_never_changes p id h (e ∷ []) i.0 l i.1, (let g = mark_grows h e.op in let a = i.2 in omega (arith, g, a)))
+has_fired_more p id e h l i = (i.0, firing_never_changes p id h (e ∷ []) i.0 l i.1, (let g = mark_grows (mark_of h) e.op in let a = i.2 in omega (arith, g, a)))
 
 some_of : (o : Option Firing) → is_some o ≡ true → (f : Firing) × (o ≡ Some f)
 some_of None e = absurd (false≢true e)
@@ -411,7 +405,7 @@ told_now : (p : Plan) (n c i j : ℕ) (h : List Entry) (f g : Firing) → IsHist
 told_now p n c i j h f g l d a b k =
     let r = telling_fired p n c j h (place_of p n h) l refl d in
     let t = tells_at p n r.0 r.1 r.2 h l r.4 in
-    let q : g.tx ≡ r.1 = ap (λ z. z.tx) (some_same g r.3 (sym b ∙ r.5)) ∙ r.6 in
+    let q : g.tx ≡ r.1 = ap (λ z. z.tx) (same_Some g r.3 (sym b ∙ r.5)) ∙ r.6 in
     let m = notes_first_stand_in_order p f.tx r.0 h t.note l t.noted (subst (λ z. f.tx < z) (q ∙ sym t.of_it) k) (full_at i (fired_at p f.tx h) (at_its_push p i h f l a)) in
     let w = (teller_at_or_below_the_head p n r.0 h l (subst (IsFor (task_of n h)) r.4 (place_for p n h l))).1 in
     let v = m.before in

@@ -1,5 +1,5 @@
 -- The watches that are set, and how they fire.
-use Rattle.std.specs.Prelude.{◌≡◌, ℕ, ◌==◌, ◌<◌, ◌≤◌, ◌++◌, ◌⊎◌, true, if◌then◌else◌, List, [], ◌∷◌, Option, Some, None, is_some}
+use Rattle.std.specs.Prelude.{◌≡◌, ℕ, ◌==◌, ◌<◌, ◌≤◌, ◌++◌, ◌⊎◌, true, List, [], ◌∷◌, Option, Some, None, is_some}
 use Rattle.fk_base.specs.Path.{same_path}
 use Rattle.fk_tree.specs.Watch.{first_taken, same_kind}
 use Rattle.fk_tree.specs.declared.change.Change.{Change}
@@ -10,14 +10,10 @@ use Rattle.fk_spec.specs.Plan.{Plan}
 use Rattle.fk_spec.specs.Start.{or_else, when}
 use Rattle.fk_spec.specs.Watches.{Watch, Firing, set_watches, given_of, firing_of, firing_in, touches_of_push}
 use Rattle.fk_spec.specs.Next.{IsHistory}
+use Rattle.fk_spec.specs.WatchNumbers.{watch_with}
 use Rattle.fk_law.specs.Due.{IsDue}
 use Rattle.fk_law.specs.LeaderLane.{is_swept}
 use Rattle.fk_law_watch.specs.Registering.{number_of_read}
-
--- the watch of this number
-abbrev pub watch_with : ℕ → List Watch → Option Watch
-watch_with id [] = None
-watch_with id (w ∷ ws) = if w.id == id then Some w else watch_with id ws
 
 -- watch `id`, where it is set
 abbrev pub set_watch : Plan → ℕ → List Entry → Option Watch
