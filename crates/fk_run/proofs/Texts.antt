@@ -1,5 +1,7 @@
 -- The text of a history, entry by entry.
-use Rattle.std.proofs.Common.{◌≡◌, ℕ, ◌+◌, ◌<◌, List, [], ◌∷◌, ◌++◌, length, take, Option, Some, None, refl, sym, ◌∙◌, ap, subst, get_or, reverse, append_assoc}
+use Rattle.std.proofs.Common.{◌≡◌, ℕ, ◌+◌, ◌<◌, List, [], ◌∷◌, ◌++◌, length, take, Option, Some, None, refl, sym, ◌∙◌, ap, subst, get_or, reverse, append_assoc, true≢false}
+use Rattle.std.specs.Prelude.{Result, Ok, Err, OnOk, false}
+use Rattle.std.specs.Result.{is_err}
 use Rattle.std.proofs.lemmas.List.{reverse-append, reverse-reverse, take_more, append-nil}
 use Rattle.std.proofs.Math.Seq.{take-length}
 use Rattle.std.specs.Io.KnownBytes.{Appends}
@@ -36,6 +38,11 @@ pub entry_more : (names : List Name) (es : List Entry) (i : ℕ) (e : Entry) (x 
     → Appends x y (text_of_first names i es) → Appends y z piece → Appends x z (text_of_first names (i + 1) es)
 entry_more names es i e x y z piece l is p g h =
     rw (text_more names es i e l) (appends_both x y z (text_of_first names i es) (entry_text names (get_or es i e)) g (subst (λ (t : List ℕ). Appends y z t) (p ∙ ap (entry_text names) is) h))
+
+-- what was added to a text that was cleared is the text
+pub piece_is : {T E : Type 0} (r : Result T E) (x y z piece : List ℕ) → is_err r ≡ false → OnOk r (y ≡ x ++ piece) → x ≡ [] → z ≡ y → z ≡ piece
+piece_is (Ok v) x y z piece n o e s = s ∙ o ∙ ap (λ (t : List ℕ). t ++ piece) e
+piece_is (Err v) x y z piece n o e s = absurd (true≢false n)
 
 names_of-append : (bs cs : List Block) → names_of (bs ++ cs) ≡ names_of bs ++ names_of cs
 names_of-append [] cs = refl

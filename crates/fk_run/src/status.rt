@@ -1,14 +1,14 @@
 //! The exit statuses, as the system's own programs number them.
 
-pub(crate) const DONE: u8 = 0;
+pub const DONE: u8 = 0;
 
-/// There are words on the command line.
-pub(crate) const USAGE: u8 = 64;
+/// The words of the command line are not accepted.
+pub const USAGE: u8 = 64;
 
-pub(crate) const BAD_INPUT: u8 = 65;
+pub const BAD_INPUT: u8 = 65;
 
-pub(crate) const READ_FAULT: u8 = 66;
+pub const READ_FAULT: u8 = 66;
 
-pub(crate) const NO_MEMORY: u8 = 71;
+pub const NO_MEMORY: u8 = 71;
 
-pub(crate) const WRITE_FAULT: u8 = 74;
+pub const WRITE_FAULT: u8 = 74;

@@ -1,34 +1,69 @@
-ghost use Rattle.std.specs.Prelude.{◌≡◌, ◌≤◌, ◌⊎◌, IfOk, string_bytes};
+ghost use Rattle.std.specs.Prelude.{◌≡◌, ◌≢◌, ◌≤◌, ◌⊎◌, IfOk, string_bytes};
 ghost use Rattle.std.specs.Io.KnownBytes.{Appends};
 ghost use Rattle.fk_base.specs.Faults.{Rose};
 ghost use Rattle.fk_print.specs.EntryText.{history_text};
-ghost use Rattle.fk_run.specs.Statuses.{bad_line};
+ghost use Rattle.fk_print.specs.SummaryText.{summary_text};
+ghost use Rattle.fk_run.specs.Run.{client_names};
+ghost use Rattle.fk_run.specs.Statuses.{WritesFront, bad_line};
 
 use crate::status::{BAD_INPUT, DONE, NO_MEMORY, WRITE_FAULT};
 use fk_base::{Names, NoMemory, Sink, WriteAll, write_all};
-use fk_print::{History, render_entry};
-use fk_script::Why;
+use fk_print::{History, append_entry, summary};
+use fk_script::{Deployment, Why};
 use std::alloc::Global;
 use std::fmt::Write;
 
-/// Offers the text of a history entry by entry, the oldest first.
-#[tactic(auto, using(crate::proofs::Texts::text_more, crate::proofs::Texts::text_all))]
-pub(crate) fn write_history<K: Sink>(
+/// Offers the text of a history of the deployment, entry by entry: the answer is the status.
+pub fn write_text<K: Sink>(
     alloc: Global,
-    clients: &Names,
+    deployment: &Deployment,
     history: &History,
     sink: &mut K,
 ) -> u8
-    ensures done { result ≡ 0 → Appends (K.taken sink.old) (K.taken sink.new) (history_text clients.now history.now) }
+    ensures done { result ≡ 0 → Appends (K.taken sink.old) (K.taken sink.new)
+        (history_text (client_names deployment.now) history.now) }
+    ensures front { result ≢ 0 → WritesFront (K.taken sink.old) (K.taken sink.new)
+        (history_text (client_names deployment.now) history.now) }
     ensures fault { result ≡ 74 → Rose (K.faults sink.old) (K.faults sink.new) }
     ensures statuses { (result ≡ 0) ⊎ (result ≡ 71) ⊎ (result ≡ 74) }
     ensures later { K.faults sink.old ≤ K.faults sink.new }
 {
+    match client_names(alloc, deployment) {
+        Ok(clients) => write_history(alloc, &clients, history, sink),
+        Err(NoMemory) => NO_MEMORY,
+    }
+}
+
+/// The names of the clients, in file order.
+#[tactic(auto, using(crate::proofs::Texts::names_more))]
+fn client_names(alloc: Global, deployment: &Deployment) -> Result<Names, NoMemory>
+    ensures { IfOk result (λ n. n ≡ client_names deployment.now) }
+{
+    let mut names = Names::new(alloc);
+    'naming: for block in deployment.clients.as_slice() {
+        names.push(block.name.copy()?)?;
+    }
+    Ok(names)
+}
+
+/// Offers the text of a history entry by entry, the oldest first.
+#[tactic(auto, using(crate::proofs::Texts::text_more, crate::proofs::Texts::text_all))]
+fn write_history<K: Sink>(alloc: Global, clients: &Names, history: &History, sink: &mut K) -> u8
+    ensures done { result ≡ 0 → Appends (K.taken sink.old) (K.taken sink.new)
+        (history_text clients.now history.now) }
+    ensures front { result ≢ 0 → WritesFront (K.taken sink.old) (K.taken sink.new)
+        (history_text clients.now history.now) }
+    ensures fault { result ≡ 74 → Rose (K.faults sink.old) (K.faults sink.new) }
+    ensures statuses { (result ≡ 0) ⊎ (result ≡ 71) ⊎ (result ≡ 74) }
+    ensures later { K.faults sink.old ≤ K.faults sink.new }
+{
+    let mut text = String::new(alloc);
     'writing: for entry in history.as_slice() {
-        let Ok(text) = render_entry(alloc, clients, entry) else {
+        text.clear();
+        if append_entry(&mut text, clients, entry).is_err() {
             return NO_MEMORY;
-        };
-        match write_all(sink, text.as_slice()) {
+        }
+        match write_all(sink, text.as_bytes()) {
             WriteAll::Done => {}
             WriteAll::Failed => return WRITE_FAULT,
         }
@@ -36,9 +71,31 @@ pub(crate) fn write_history<K: Sink>(
     DONE
 }
 
-/// Writes the line that says why there is no run.
-pub(crate) fn refuse<K: Sink>(line: &str, sink: &mut K) -> u8
+/// Offers the summary of a history.
+#[tactic(auto, using(crate::proofs::Fronts::nothing, crate::proofs::Fronts::front_of))]
+pub(crate) fn write_summary<K: Sink>(alloc: Global, history: &History, sink: &mut K) -> u8
+    ensures done { result ≡ 0
+        → Appends (K.taken sink.old) (K.taken sink.new) (summary_text history.now) }
+    ensures front { result ≢ 0
+        → WritesFront (K.taken sink.old) (K.taken sink.new) (summary_text history.now) }
+    ensures fault { result ≡ 74 → Rose (K.faults sink.old) (K.faults sink.new) }
+    ensures statuses { (result ≡ 0) ⊎ (result ≡ 71) ⊎ (result ≡ 74) }
+    ensures later { K.faults sink.old ≤ K.faults sink.new }
+{
+    let Ok(counts) = summary(alloc, history) else {
+        return NO_MEMORY;
+    };
+    match write_all(sink, counts.as_slice()) {
+        WriteAll::Done => DONE,
+        WriteAll::Failed => WRITE_FAULT,
+    }
+}
+
+/// Writes the line that says why there is no run: the answer is the status.
+#[tactic(auto, using(crate::proofs::Fronts::front_of))]
+pub fn refuse<K: Sink>(line: &str, sink: &mut K) -> u8
     ensures refused { result ≡ 65 → Appends (K.taken sink.old) (K.taken sink.new) line.now }
+    ensures front { result ≢ 65 → WritesFront (K.taken sink.old) (K.taken sink.new) line.now }
     ensures fault { result ≡ 74 → Rose (K.faults sink.old) (K.faults sink.new) }
     ensures statuses { (result ≡ 65) ⊎ (result ≡ 74) }
     ensures later { K.faults sink.old ≤ K.faults sink.new }
@@ -50,8 +107,12 @@ pub(crate) fn refuse<K: Sink>(line: &str, sink: &mut K) -> u8
 }
 
 /// Writes the number of the line that offends, and its reason.
-pub(crate) fn refuse_line<K: Sink>(alloc: Global, line: u64, why: Why, sink: &mut K) -> u8
-    ensures refused { result ≡ 65 → Appends (K.taken sink.old) (K.taken sink.new) (bad_line line why) }
+#[tactic(auto, using(crate::proofs::Fronts::nothing))]
+pub fn refuse_line<K: Sink>(alloc: Global, line: u64, why: Why, sink: &mut K) -> u8
+    ensures refused { result ≡ 65
+        → Appends (K.taken sink.old) (K.taken sink.new) (bad_line line why) }
+    ensures front { result ≢ 65
+        → WritesFront (K.taken sink.old) (K.taken sink.new) (bad_line line why) }
     ensures fault { result ≡ 74 → Rose (K.faults sink.old) (K.faults sink.new) }
     ensures statuses { (result ≡ 65) ⊎ (result ≡ 71) ⊎ (result ≡ 74) }
     ensures later { K.faults sink.old ≤ K.faults sink.new }

@@ -5,11 +5,15 @@
 #[cfg(test)]
 mod base;
 #[cfg(test)]
+mod live;
+#[cfg(test)]
 mod machines;
 #[cfg(test)]
 mod run;
 #[cfg(test)]
 mod services;
+#[cfg(test)]
+mod tables;
 #[cfg(test)]
 mod text;
 #[cfg(test)]

@@ -58,10 +58,11 @@ const ONE_CREATE: &str = "\
 const COUNTS: &str =
     "entries 21\ntransactions 1\nreplies 1\nerrors 0\nnotifications 0\nexpired 0\nlast 1\n";
 
-/// The status of a run over memory, or 255 where other bytes than `wanted` were written.
-fn status(alloc: Global, input: &str, wanted: &str) -> Result<u8, NoMemory> {
+/// The status of a run over memory in which these writes fail, or 255 where other bytes than `wanted` were
+/// written.
+fn status(alloc: Global, input: &str, failing: &[u64], wanted: &str) -> Result<u8, NoMemory> {
     let mut source = MemSource::new(alloc, input.as_bytes(), &[])?;
-    let mut sink = MemSink::new(alloc, 4096, &[])?;
+    let mut sink = MemSink::new(alloc, 4096, failing)?;
     let status = fk_run(alloc, &[], &mut source, &mut sink, &mut None);
     Ok(if sink.as_slice() == wanted.as_bytes() {
         status
@@ -73,7 +74,10 @@ fn status(alloc: Global, input: &str, wanted: &str) -> Result<u8, NoMemory> {
 #[test]
 fn runs_one_create(rt: HostRuntime) -> Result<(), Fail> {
     let alloc = rt.alloc();
-    assert_eq!(rt; status(alloc, "client a\ncreate /x hi\n", ONE_CREATE)?, 0);
+    assert_eq!(rt;
+        status(alloc, "client a\ncreate /x hi\n", &[], ONE_CREATE)?,
+        0
+    );
     Ok(())
 }
 
@@ -81,9 +85,47 @@ fn runs_one_create(rt: HostRuntime) -> Result<(), Fail> {
 fn tells_why_it_refuses(rt: HostRuntime) -> Result<(), Fail> {
     let alloc = rt.alloc();
     assert_eq!(rt;
-        status(alloc, "lock 10\nlock 10\n", "bad 2 BadWords\n")?,
+        status(alloc, "lock 10\nlock 10\n", &[], "bad 2 BadWords\n")?,
         65
     );
+    Ok(())
+}
+
+/// The text of the first entries of one create.
+fn first_entries(alloc: Global, count: u64) -> Result<String, NoMemory> {
+    let mut text = String::new(alloc);
+    let mut begun = 0u64;
+    for line in ONE_CREATE.lines() {
+        if line.starts_with("> ") {
+            begun = begun.saturating_add(1);
+        }
+        if begun <= count {
+            text.push_str(line)?;
+            text.push('\n')?;
+        }
+    }
+    Ok(text)
+}
+
+/// The status of one create whose write number `failing` fails, behind the entries that were written before.
+fn cut(alloc: Global, failing: u64) -> Result<u8, NoMemory> {
+    let wanted = first_entries(alloc, failing.saturating_sub(1))?;
+    status(
+        alloc,
+        "client a\ncreate /x hi\n",
+        &[failing],
+        wanted.as_str(),
+    )
+}
+
+#[test]
+fn a_failed_write_leaves_whole_entries(rt: HostRuntime) -> Result<(), Fail> {
+    let alloc = rt.alloc();
+    for failing in 1..22 {
+        assert_eq!(rt; cut(alloc, failing)?, 74);
+    }
+    assert_eq!(rt; cut(alloc, 22)?, 0);
+    assert_eq!(rt; status(alloc, "lock 10\nlock 10\n", &[1], "")?, 74);
     Ok(())
 }
 

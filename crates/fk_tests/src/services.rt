@@ -3,7 +3,8 @@
 ghost use Rattle.std.specs.Prelude.{◌≡◌, true, is_some, IfOk, IsTrue};
 
 use fk_base::{Bytes, NoMemory, Path, Paths, Text};
-use fk_queue::{Lane, Post, Posted};
+use fk_index::IndexTable;
+use fk_queue::{Ack, Lane, Post, Posted};
 use fk_settle::{Verdict, commit, refuse_writes, settle_conds};
 use fk_store::{ListTable, Outcome, Owned, Seen, Table, Taken};
 use fk_tree::{Change, Edit, Edits, Kind, Mades, Request, Touch, Touches, What};
@@ -124,6 +125,14 @@ fn commits_a_push(rt: HostRuntime) -> Result<(), Fail> {
     Ok(())
 }
 
+#[test]
+fn commits_a_push_by_an_index(rt: HostRuntime) -> Result<(), Fail> {
+    let push = push(rt.alloc())?;
+    let mut table = IndexTable::new(rt.alloc(), 1)?;
+    assert!(rt; commits(rt.alloc(), &mut table, &push)? && keeps(&mut table, &push)?);
+    Ok(())
+}
+
 /// How many conditions and writes settle a request that is lost, where it holds the root's lock.
 fn refuses(alloc: Global) -> Result<(usize, usize), NoMemory> {
     let root = [Path::root(alloc)];
@@ -189,6 +198,16 @@ fn puts_and_publishes(rt: HostRuntime) -> Result<(), Fail> {
 fn gives_a_message_its_number(rt: HostRuntime) -> Result<(), Fail> {
     let mut post = Post::new(rt.alloc(), 1)?;
     assert_eq!(rt; post.push(Lane::Leader, b"one"), Posted::At(1));
+    Ok(())
+}
+
+#[test]
+fn keeps_a_message_in_blocks(rt: HostRuntime) -> Result<(), Fail> {
+    let mut post = Post::new(rt.alloc(), 1)?;
+    assert_eq!(rt; post.push(Lane::Inbox(1), &[7; 300]), Posted::At(1));
+    assert_eq!(rt; post.used(), 2);
+    assert_eq!(rt; post.ack(Lane::Inbox(1), 1), Ack::Acked);
+    assert_eq!(rt; post.used(), 0);
     Ok(())
 }
 

@@ -2,7 +2,7 @@
 
 use fk_base::{Bytes, Code, Names, NoMemory, Path, Paths, Text};
 use fk_print::{Act, Entry, Event, Line, Lines, Op, Printed, Shown, Verb, render_entry};
-use fk_script::{generate, print_script, read_script};
+use fk_script::{ScriptFault, Why, generate, print_script, read_script, read_unscheduled};
 use fk_tree::{Change, Kind, PartReply, Replies, Stat};
 use std::alloc::Global;
 use std::test::Fail;
@@ -175,5 +175,19 @@ fn prints_deployments(rt: HostRuntime) -> Result<(), Fail> {
     assert!(rt; is_generated(rt.alloc(), GENERATED)?);
     assert!(rt; is_printed(rt.alloc(), GENERATED)?);
     assert!(rt; is_printed(rt.alloc(), WRITTEN)?);
+    Ok(())
+}
+
+/// Whether these bytes are read, where they may have no schedule, to the deployment that they print.
+fn is_unscheduled(alloc: Global, text: &str) -> Result<bool, Fail> {
+    let deployment = read_unscheduled(alloc, text.as_bytes())?;
+    Ok(print_script(alloc, &deployment)?.as_slice() == text.as_bytes())
+}
+
+#[test]
+fn reads_deployments_without_schedule(rt: HostRuntime) -> Result<(), Fail> {
+    assert!(rt; is_unscheduled(rt.alloc(), "lock 1\nbeat 2\nclient a\ncreate /x hi\n")?);
+    let refused = read_unscheduled(rt.alloc(), b"client a\nschedule\n").err();
+    assert!(rt; refused == Some(ScriptFault::Bad(2, Why::Schedule)));
     Ok(())
 }

@@ -1,6 +1,7 @@
 -- A new world.
 use Rattle.std.specs.Prelude.{zero}
 use Rattle.std.proofs.Common.{◌≡◌, ℕ, suc, ◌+◌, ◌≤◌, List, [], ◌∷◌, length, refl, sym, ◌∙◌, ap, subst, arith, Option, Some, None}
+use Rattle.std.proofs.lemmas.Option.{none-some}
 use Rattle.fk_script.specs.PrintLaws.{IsMeant}
 use Rattle.fk_script.specs.declared.command.Command.{Command}
 use Rattle.fk_script.specs.declared.deployment.Block.{Block}
@@ -11,7 +12,6 @@ use Rattle.fk_store.specs.Meaning.{new_table}
 use Rattle.fk_client.specs.Meaning as client
 use Rattle.fk_client.specs.Meaning.{new_client}
 use Rattle.fk_limits.proofs.Deployments.{clients_are_few, commands_are_few}
-use Rattle.fk_law_client.proofs.Messages.{none_some}
 use Rattle.fk_engine.specs.Engine as engine
 use Rattle.fk_engine.specs.Engine.{new_engine}
 use Rattle.fk_agree_engine.specs.World.{IsWorld}
@@ -49,12 +49,12 @@ or_given m None = m
 or_given m (Some x) = x
 
 new_item : (xs : List (List Ask)) (k s n : ℕ) (m : client.Meaning) → n ≡ s + k → item_after (new_clients s xs) k ≡ Some m → m ≡ new_client n (or_empty (item_after xs k))
-new_item [] k s n m e q = absurd (none_some m q)
+new_item [] k s n m e q = absurd (none-some m q)
 new_item (x ∷ xs) zero s n m e q = sym (ap (or_given m) q) ∙ ap (λ i. new_client i x) (omega (arith, e))
 new_item (x ∷ xs) (suc k) s n m e q = new_item xs k (suc s) n m (omega (arith, e)) q
 
 new_nth : (xs : List (List Ask)) (c : ℕ) (m : client.Meaning) → nth (new_clients 1 xs) c ≡ Some m → m ≡ new_client c (or_empty (nth xs c))
-new_nth xs zero m q = absurd (none_some m q)
+new_nth xs zero m q = absurd (none-some m q)
 new_nth xs (suc k) m q = new_item xs k 1 (suc k) m (omega arith) q
 
 new_stands : (d : Deployment) (ms : List client.Meaning) (t : table.Meaning) → t ≡ new_table (length (plan_of d).asks) → ms ≡ new_clients 1 (plan_of d).asks → IsWorld (plan_of d) [] (new_engine d.config.lock d.config.beat ms t).parts

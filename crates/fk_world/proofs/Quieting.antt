@@ -1,12 +1,14 @@
 -- A world that is quiet.
 use Rattle.std.specs.Prelude.{◌==◌, ◌&&◌}
-use Rattle.std.proofs.Common.{◌≡◌, ℕ, suc, Bool, false, List, [], ◌∷◌, length, refl, ◌∙◌, ap, arith}
+use Rattle.std.proofs.Common.{◌≡◌, ℕ, suc, Bool, true, false, List, [], ◌∷◌, length, refl, ◌∙◌, ap, arith}
+use Rattle.std.proofs.lemmas.Bool.{eqb-true}
 use Rattle.fk_print.specs.declared.entry.Entry.{Entry}
 use Rattle.fk_script.specs.declared.deployment.Deployment.{Deployment}
 use Rattle.fk_spec.specs.Plan.{Ask, Plan, asks_in, plan_of}
 use Rattle.fk_spec.specs.Function.{in_flight}
 use Rattle.fk_spec.specs.Client.{Client, client_of, is_none_sent, next_asked}
-use Rattle.fk_queue.specs.Meaning.{waiting_in}
+use Rattle.fk_queue.proofs.Counting.{no_blocks_where_none_waits}
+use Rattle.fk_queue.specs.Meaning.{blocks_in, waiting_in}
 use Rattle.fk_queue.specs.Meaning as post
 use Rattle.fk_stand.specs.Posts.{post_after}
 use Rattle.fk_client.specs.Idle.{owes_none}
@@ -49,3 +51,10 @@ quiet_is d m b a s f =
     f (in_flight p h) (are_in_flight p h m.parts w)
     ∙ ap (λ (q : post.Meaning). is_none_listed (in_flight p h) && (waiting_in q == 0) && drain.are_done m.parts.clients) w.services.post
     ∙ ap (λ z. is_none_listed (in_flight p h) && (waiting_in (post_after p h 0) == 0) && z) (dones_are p h m.parts.clients p.asks 1 (all_clients p h m.parts w) w.clients.count)
+
+-- In a quiet world no message takes a block.
+pub no_blocks_where_quiet : (p : Plan) (h : List Entry) → is_quiet p h ≡ true → blocks_in (post_after p h 0) ≡ 0
+no_blocks_where_quiet p h q = no_blocks_where_none_waits (length p.asks) (post_after p h 0).lanes (eqb-true _ _ (second (is_none_listed (in_flight p h)) (waiting_in (post_after p h 0) == 0) (are_done p p.asks 1 h) q))
+  where
+    second : (a b c : Bool) → (a && b && c) ≡ true → b ≡ true
+    second a b c e = grind (arith, e)

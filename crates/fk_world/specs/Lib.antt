@@ -1,2 +1,4 @@
 pub mod World
 pub mod Quiet
+pub mod Clocks
+pub mod Draining

@@ -1,6 +1,6 @@
 //! The world.
 
-ghost use Rattle.std.specs.Prelude.{◌≡◌, ◌<◌, ◌^◌, ◌∷◌, [], length, not, true, false, IfOk, OnOk, OnErr};
+ghost use Rattle.std.specs.Prelude.{◌≡◌, ◌≢◌, [], ◌∷◌, List, length, not, true, false, IfOk, OnOk, OnErr};
 ghost use Rattle.fk_agree_engine.specs.Playing.{IsMoment};
 ghost use Rattle.fk_script.specs.PrintLaws.{IsMeant};
 ghost use Rattle.fk_spec.specs.Next.{IsHistory, names_client, next_entry, next_op};
@@ -12,15 +12,18 @@ ghost use Rattle.fk_store.specs.Meaning.{new_table};
 ghost use Rattle.fk_stand.specs.Posts.{post_after};
 ghost use Rattle.fk_stand.specs.Stores.{store_after, watches_after};
 ghost use Rattle.fk_stand.specs.Tables.{table_after};
+ghost use Rattle.fk_queue.specs.Meaning.{blocks_in};
 ghost use Rattle.fk_queue.specs.Posts.{post_of};
 ghost use Rattle.fk_user.specs.Stored.{store_of};
 ghost use Rattle.fk_watch.specs.Kept.{watches_of};
 ghost use Rattle.fk_world.specs.Quiet.{is_quiet};
+ghost use Rattle.fk_world.specs.Clocks.{clock_shown};
+ghost use Rattle.fk_world.specs.World.{Adds, Comes, Stops};
 
 use crate::making::clients_of;
 use fk_base::{Config, NoMemory, Numbers};
 use fk_engine::Engine;
-use fk_print::{Event, History};
+use fk_print::{Entry, Event, History};
 use fk_queue::Post;
 use fk_script::Deployment;
 use fk_store::Table;
@@ -49,6 +52,11 @@ impl<T: Table> Model for World<T> {
 }
 
 impl<T: Table> World<T> {
+    ghost use Rattle.std.specs.Borrow.{sem};
+    ghost use Rattle.std.specs.Io.BufRead.{Rests};
+    ghost use Rattle.fk_world.specs.contracts.world.World.{the_row};
+    ghost use Rattle.fk_print.specs.declared.entry.Entry as values;
+
     /// A new world, of a deployment that some bytes mean and a new table.
     pub fn new(alloc: Global, deployment: Deployment, table: T) -> Result<World<T>, NoMemory>
         requires meant { IsMeant deployment }
@@ -67,18 +75,41 @@ impl<T: Table> World<T> {
         })
     }
 
-    /// Makes the operation of an event, and adds its entry. After `NoMemory` the past is as before,
-    /// and the world is spent: it answers `NoMemory` from then on.
-    pub fn apply_event(&mut self, event: &Event) -> Result<(), NoMemory>
+    /// Makes the operation of an event, and adds and gives its entry. After `NoMemory` the past is as
+    /// before, and the world is spent: it answers `NoMemory` from then on.
+    pub fn apply_event(&mut self, event: &Event) -> Result<&Entry, NoMemory>
         requires named { names_client (plan_of self.old.deployment) event.now ≡ true }
         requires moment { IsMoment event.now }
-        ensures next { OnOk result (self.new.past
-            ≡ next_entry (plan_of self.old.deployment) self.old.past event.now ∷ self.old.past) }
-        ensures going { OnOk result (self.new.spent ≡ false) }
-        ensures unspent { OnOk result (self.old.spent ≡ false) }
-        ensures room { OnOk result (length self.old.past < 2 ^ 62) }
-        ensures past { OnErr result (self.new.past ≡ self.old.past) }
-        ensures spent { OnErr result (self.new.spent ≡ true) }
+        ensures entry { IfOk result (λ e. e.now ≡ next_entry (plan_of self.old.deployment)
+            self.old.past event.now) }
+        ensures* after { sem 𝓛 (Rests (the_row T.row T.Table) self.entry (λ new.
+            Comes event.now result self.old new)) }
+    {
+        if self.play(event).is_err() {
+            return Err(NoMemory);
+        }
+        Ok(self.last())
+    }
+
+    // the entry that was added last
+    fn last(&self) -> &Entry
+        requires { self.now.past ≢ [] }
+        ensures { (e : values.Entry) (h : List values.Entry) → self.now.past ≡ e ∷ h
+            → result.now ≡ e }
+    {
+        let entries = self.engine.history().as_slice();
+        &entries[entries.len() - 1]
+    }
+
+    /// Makes the operation of an event, and adds its entry, as `apply_event` does.
+    pub(crate) fn play(&mut self, event: &Event) -> Result<(), NoMemory>
+        requires named { names_client (plan_of self.old.deployment) event.now ≡ true }
+        requires moment { IsMoment event.now }
+        ensures added { OnOk result (Adds (next_entry (plan_of self.old.deployment)
+            self.old.past event.now) self.old self.new) }
+        ensures clock { OnOk result (clock_of self.new.past
+            ≡ clock_shown event.now (clock_of self.old.past)) }
+        ensures stopped { OnErr result (Stops self.old self.new) }
         ensures deployment { self.new.deployment ≡ self.old.deployment }
     {
         self.engine.apply_event(event)
@@ -125,7 +156,7 @@ impl<T: Table> World<T> {
         ensures numbers { IfOk result (λ ns. ns
             ≡ in_flight (plan_of self.old.deployment) self.old.past) }
         ensures same { OnOk result (self.new ≡ self.old) }
-        ensures spent { OnErr result (self.new.spent ≡ true) }
+        ensures stopped { OnErr result (Stops self.old self.new) }
         ensures deployment { self.new.deployment ≡ self.old.deployment }
     {
         match Numbers::from_slice(self.alloc, self.engine.in_flight()) {
@@ -181,6 +212,16 @@ impl<T: Table> World<T> {
             (plan_of self.now.deployment) self.now.past (post_of result.now).faults }
     {
         self.engine.post()
+    }
+
+    /// How many blocks of 256 bytes the messages take that wait in the queues.
+    pub fn blocks(&self) -> usize
+        ensures post { self.now.spent ≡ false → result ≡ blocks_in (post_after
+            (plan_of self.now.deployment) self.now.past 0) }
+        ensures quiet { self.now.spent ≡ false
+            → is_quiet (plan_of self.now.deployment) self.now.past ≡ true → result ≡ 0 }
+    {
+        self.post().used()
     }
 
     /// The user storage.

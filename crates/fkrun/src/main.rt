@@ -3,8 +3,12 @@
 
 use fk_base::{StdSink, StdSource};
 use fk_run::fk_run;
+use std::io::{BufWriter, Write};
 use std::process::ExitCode;
 use std::{env, io};
+
+/// How many bytes are written at a time.
+const BUFFER: usize = 65_536;
 
 /// The words behind the program's name.
 fn words(rt: &HostRuntime) -> io::Result<Vec<String>> {
@@ -15,20 +19,26 @@ fn words(rt: &HostRuntime) -> io::Result<Vec<String>> {
     Ok(words)
 }
 
-/// Ends with the status of the run. A word that isn't UTF-8 is one word too many.
-fn main(rt: HostRuntime) -> ExitCode {
-    let words = match words(&rt) {
-        Ok(words) => words,
-        Err(fault) if fault.kind() == io::ErrorKind::OutOfMemory => return ExitCode::from(71),
-        Err(_) => return ExitCode::from(64),
+/// The status of the run, whose output is buffered. What is left in the buffer at the end is written then;
+/// a failure of that is a failed write.
+fn status(rt: &HostRuntime, words: &[String]) -> u8 {
+    let Ok(mut output) = BufWriter::with_capacity(rt.alloc(), BUFFER, rt.stdout()) else {
+        return 71;
     };
     let mut source = StdSource::new(rt.stdin());
-    let mut sink = StdSink::new(rt.stdout());
-    ExitCode::from(fk_run(
-        rt.alloc(),
-        words.as_slice(),
-        &mut source,
-        &mut sink,
-        &mut None,
-    ))
+    let mut sink = StdSink::new(&mut output);
+    let status = fk_run(rt.alloc(), words, &mut source, &mut sink, &mut None);
+    match output.flush() {
+        Ok(()) => status,
+        Err(_) => 74,
+    }
+}
+
+/// Ends with the status of the run. A word that isn't UTF-8 is one word too many.
+fn main(rt: HostRuntime) -> ExitCode {
+    match words(&rt) {
+        Ok(words) => ExitCode::from(status(&rt, words.as_slice())),
+        Err(fault) if fault.kind() == io::ErrorKind::OutOfMemory => ExitCode::from(71),
+        Err(_) => ExitCode::from(64),
+    }
 }

@@ -1,13 +1,14 @@
-use Rattle.std.proofs.Common.{◌≡◌, ◌++◌, List, false, length}
-use Rattle.fk_print.specs.declared.entry.Entry.{Entry}
-use Rattle.fk_print.specs.declared.event.Event.{Event}
-use Rattle.fk_spec.specs.Schedule.{Plays, crashes}
+use Rattle.std.proofs.Common.{◌≡◌, false, length}
+use Rattle.fk_spec.specs.Schedule.{crashes}
+use Rattle.fk_spec.specs.Start.{clock_of}
+use Rattle.fk_world.proofs.Emptying.{HasMade}
 use Rattle.fk_world.proofs.world.World.crash.Given as goal
 
 abbrev pub invariant-crashing : goal.invariant-crashing
 invariant-crashing g l = record {
-  crashed : (es : List Event) (k : List Entry) → Plays (crashes l.rest ++ es) l.self.past k → Plays (crashes l.fn.numbers ++ es) l.fn.self.past k;
+  made : HasMade (crashes l.rest) (crashes l.fn.numbers) l.fn.self.past l.self.past;
   deployment : l.self.deployment ≡ l.fn.self.deployment;
+  clock : clock_of l.self.past ≡ clock_of l.fn.self.past;
   spent : l.self.spent ≡ false;
 }
 

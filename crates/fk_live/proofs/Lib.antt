@@ -1,0 +1,4 @@
+pub mod Offering
+pub mod Keeping
+pub mod Closing
+pub mod Ending
