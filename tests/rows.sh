@@ -1,7 +1,8 @@
 #!/usr/bin/env bash
 # Runs the built program over the case files in tests/cases: NAME.in on standard input, NAME.args as its
 # words, one a line (none without the file), against NAME.out and the status in NAME.status (0 without it).
-# Then over the examples, against tests/examples, and over inputs that are too large to keep as files.
+# Then over the examples, against tests/examples, and over inputs that are too large to keep as files. It
+# also looks whether the pictures of docs are what tools/draw makes.
 set -u
 cd "$(dirname "$0")/.." || exit 1
 program=crates/fkrun/out/fkrun
@@ -49,6 +50,17 @@ done
 for example in examples/*.fk; do
   name=${example##*/}
   check "$example" "$example" "tests/examples/${name%.fk}.out" 0
+done
+
+# each picture of docs is the one that tools/draw makes of its example
+for picture in first crash watch; do
+  tools/draw "examples/$picture.fk" "tests/examples/$picture.out" > "$scratch/got"
+  if cmp -s "$scratch/got" "docs/$picture.svg"; then
+    passed=$((passed + 1))
+  else
+    failed=$((failed + 1))
+    echo "failed: docs/$picture.svg isn't what tools/draw makes of examples/$picture.fk"
+  fi
 done
 
 # bytes NUMBER OCTAL: so many bytes of this value
