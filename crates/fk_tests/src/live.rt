@@ -143,6 +143,7 @@ fn sixteen_workers_end(rt: HostRuntime) -> Result<(), Fail> {
 fn one_worker_ends(rt: HostRuntime) -> Result<(), Fail> {
     let world = world_of(rt.alloc(), SERVICE)?;
     let world = live(&rt, rt.alloc(), world, 1, &SetClock::new(7), &NoGate)?;
+    assert!(rt; !world.spent());
     assert!(rt; world.quiet());
     Ok(())
 }
