@@ -61,7 +61,7 @@ build() {
     say "the sources have changed since the program was built"
   fi
   say "proving the program and every crate below it, which takes hours of a processor from nothing"
-  say "(./$self --quick FILE plays without proof, in about half a minute)"
+  say "(./$self --quick FILE plays without proof, in under a minute)"
   local log=$top/crates/$self/out/build.log
   mkdir -p "${log%/*}"
   (cd "$top/crates/$self" && rt run </dev/null >"$log" 2>&1)
@@ -89,14 +89,19 @@ run() {
   trap 'rm -rf "$scratch"' EXIT
   if [ -n "$quick" ]; then
     need_rt
-    say "--quick: building without proof, in about half a minute on an idle machine"
+    say "--quick: building without proof, in under a minute on an idle machine"
   elif stale; then
     build
   fi
 
   exec 3<"$file"
-  play ${words[@]+"${words[@]}"} <&3 | tee "$scratch/out"
-  status=${PIPESTATUS[0]}
+  play ${words[@]+"${words[@]}"} <&3 | tee "$scratch/out" 2>/dev/null
+  local ends=("${PIPESTATUS[@]}")
+  status=${ends[0]}
+  # what the program wrote into the pipe may not have come to standard output
+  if [ "${ends[1]}" != 0 ] && { [ "$status" = 0 ] || [ "$status" = 65 ]; }; then
+    status=74
+  fi
   if [ -n "$quick" ] && [ "$status" -ge 1 ] && [ "$status" -le 6 ]; then
     cat "$scratch/build" >&2
     say "the program wasn't built, or was stopped (status $status of rt try)"
