@@ -5,6 +5,7 @@ ghost use Rattle.std.specs.Prelude.{◌≡◌, true, is_some, IfOk, IsTrue};
 use fk_base::{Bytes, NoMemory, Path, Paths, Text};
 use fk_index::IndexTable;
 use fk_queue::{Ack, Lane, Post, Posted};
+use fk_region::Region;
 use fk_settle::{Verdict, commit, refuse_writes, settle_conds};
 use fk_store::{ListTable, Outcome, Owned, Seen, Table, Taken};
 use fk_tree::{Change, Edit, Edits, Kind, Mades, Request, Touch, Touches, What};
@@ -208,6 +209,30 @@ fn keeps_a_message_in_blocks(rt: HostRuntime) -> Result<(), Fail> {
     assert_eq!(rt; post.used(), 2);
     assert_eq!(rt; post.ack(Lane::Inbox(1), 1), Ack::Acked);
     assert_eq!(rt; post.used(), 0);
+    Ok(())
+}
+
+/// How many blocks are in use and how many there are: with bytes kept, without them, and after a
+/// reservation that has to be refused; and whether the bytes came back and the refusal came.
+fn blocks_of_a_region(alloc: Global) -> Result<([usize; 6], bool), NoMemory> {
+    let mut region = Region::new(alloc);
+    region.reserve(3)?;
+    let ticket = region.put(&[7; 600]);
+    let (used, total) = (region.used(), region.total());
+    let mut copy = [0u8; 600];
+    region.copy_out(&ticket, &mut copy);
+    let whole = region.len(&ticket) == 600 && copy == [7; 600];
+    region.give_back(ticket);
+    let (left, all) = (region.used(), region.total());
+    let refused = region.reserve(usize::MAX).is_err();
+    let counts = [used, total, left, all, region.used(), region.total()];
+    Ok((counts, whole && refused))
+}
+
+#[test]
+fn a_region_keeps_its_blocks(rt: HostRuntime) -> Result<(), Fail> {
+    let (counts, fine) = blocks_of_a_region(rt.alloc())?;
+    assert!(rt; counts == [3, 3, 0, 3, 0, 3] && fine);
     Ok(())
 }
 
