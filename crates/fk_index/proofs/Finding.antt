@@ -4,7 +4,8 @@ use Rattle.std.specs.Prelude.{is_some, Result, Ok, Err, OnOk, OnErr}
 use Rattle.std.specs.BTreeMap as tree
 use Rattle.std.specs.BTreeMap.{BTreeMap, is_at, WritesThrough}
 use Rattle.fk_base.specs.Path.{PathNames, path_cmp, same_path}
-use Rattle.fk_tree.proofs.Order.{same_path_is, same_path_self, by_test}
+use Rattle.fk_tree.proofs.Order.{same_path_is, by_test}
+use Rattle.fk_tree.proofs.Looking.{same_flip}
 use Rattle.fk_store.specs.declared.node_record.NodeRecord.{NodeRecord}
 use Rattle.fk_index.specs.Slots.{Slots, flat, has_slot, record_at}
 
@@ -16,14 +17,6 @@ ok_so (Err x) a f = a
 pub err_so : {T E : Type 0} {A B : Type 0} (r : Result T E) → OnErr r A → (A → B) → OnErr r B
 err_so (Ok x) a f = a
 err_so (Err x) a f = f a
-
-pub err_any : {T E : Type 0} {A : Type 0} (r : Result T E) → A → OnErr r A
-err_any (Ok x) a = tt
-err_any (Err x) a = a
-
--- the same both ways
-pub same_flip : (p q : PathNames) → same_path p q ≡ same_path q p
-same_flip p q = by_test (same_path p q) (λ b. b ≡ same_path q p) (λ e. rw (same_path_is p q e) (sym (same_path_self q))) (λ e. by_test (same_path q p) (λ b. false ≡ b) (λ f. sym e ∙ rw (same_path_is q p f) (same_path_self p)) (λ _. refl))
 
 -- IN ANY MAP BY PATHS
 -- one path has this, and the others keep theirs

@@ -2,7 +2,7 @@
 use Rattle.std.proofs.Common.{◌≡◌, ◌≤◌, ℕ, Bool, true, false, cond, not, List, Option, Some, None, length, refl, sym, ◌∙◌, ap}
 use Rattle.std.specs.Prelude.{is_some}
 use Rattle.std.specs.BTreeMap as tree
-use Rattle.std.proofs.lemmas.Bool.{false≢true}
+use Rattle.std.proofs.lemmas.Bool.{false≢true, not-true}
 use Rattle.fk_base.specs.Path.{PathNames, name_cmp, path_cmp, same_path}
 use Rattle.fk_tree.specs.Edit.{edit}
 use Rattle.fk_tree.specs.Rows.{is_of, names_of}
@@ -44,10 +44,6 @@ finished_node (Some s) d n x k u p = ap node_of (u p) ∙ by_test (same_path p s
     (λ b. node_of (with_node (cond b (edit s.tx s.moment s.change.now.what (node_of (record_at n p))) (node_of (record_at n p))) (record_at n p)) ≡ cond b (edit s.tx s.moment s.change.now.what (node_of (record_at n p))) (node_of (record_at n p)))
     (λ _. node_edited s.tx s.moment s (record_at n p) (and_left _ _ k)) (λ _. ap node_of (own_node (record_at n p)))
 
-not_true : (b : Bool) → not b ≡ true → b ≡ false
-not_true true h = absurd (false≢true h)
-not_true false h = refl
-
 -- the draft stands over it as if the edit had been made there
 finished_over : (w : Option Step) (d : Drafts) (n x : Slots) → may_wait d w ≡ true → IsFinished w n x → (p : PathNames) → node_over d x p ≡ pended w p (node_over d n p)
 finished_over None d n x k u p = ap (or_node (tree.get path_cmp d p)) (finished_node None d n x k u p)
@@ -55,7 +51,7 @@ finished_over (Some s) d n x k u p =
     ap (or_node (tree.get path_cmp d p)) (finished_node (Some s) d n x k u p)
     ∙ by_test (same_path p s.change.now.path)
     (λ b. or_node (tree.get path_cmp d p) (cond b (edit s.tx s.moment s.change.now.what (node_of (record_at n p))) (node_of (record_at n p))) ≡ cond b (edit s.tx s.moment s.change.now.what (node_over d n p)) (node_over d n p))
-    (λ t. alone (tree.get path_cmp d p) (ap (is_drafted d) (same_path_is p s.change.now.path t) ∙ not_true (is_drafted d s.change.now.path) (and_right _ _ k))) (λ _. refl)
+    (λ t. alone (tree.get path_cmp d p) (ap (is_drafted d) (same_path_is p s.change.now.path t) ∙ not-true (is_drafted d s.change.now.path) (and_right _ _ k))) (λ _. refl)
   where
     alone : (o : Option (Option Node)) → is_some o ≡ false → or_node o (edit s.tx s.moment s.change.now.what (node_of (record_at n p))) ≡ edit s.tx s.moment s.change.now.what (or_node o (node_of (record_at n p)))
     alone None h = refl

@@ -133,7 +133,8 @@ impl IndexTable {
 
     // makes all writes; it takes all memory before it changes what the table means
     fn write_all(&mut self, writes: &[Write]) -> Result<(), NoMemory>
-        ensures ok { OnOk result (table_of self.new ≡ all_written writes.now (table_of self.old)) }
+        ensures ok { OnOk result (table_of self.new
+            ≡ all_written writes.now (table_of self.old)) }
         ensures err { OnErr result (table_of self.new ≡ table_of self.old) }
     {
         let alloc = *self.sessions.allocator();

@@ -144,8 +144,8 @@ fn edit_in(
 /// Edits the node of a path's record in place.
 pub fn edit_node(slots: &mut Slots, change: &Edit, tx: u64, moment: u64) -> Result<(), NoMemory>
     requires { rises name_cmp (names_of (node_of (record_at slots.old change.now.path))) ≡ true }
-    ensures ok { OnOk result (IsChanged (edited_record tx moment change.now.what) slots.old slots.new
-        change.now.path) }
+    ensures ok { OnOk result (IsChanged (edited_record tx moment change.now.what)
+        slots.old slots.new change.now.path) }
     ensures err { OnErr result (KeepSame slots.old slots.new) }
     ensures slots { SameSlots slots.old slots.new }
 {

@@ -1,6 +1,7 @@
 -- What is computed of a schedule is what a schedule is.
 use Rattle.std.specs.Prelude.{◌==◌, if◌then◌else◌}
 use Rattle.std.proofs.Common.{◌≡◌, ℕ, Bool, true, false, List, [], ◌∷◌, ◌++◌, refl, sym, ◌∙◌, ap, subst, arith, Option, Some, None}
+use Rattle.std.proofs.lemmas.Option.{none-some, same_Some}
 use Rattle.std.proofs.lemmas.Bool.{false≢true}
 use Rattle.std.proofs.lemmas.Bool.Decides.{nat_tests}
 use Rattle.std.proofs.lemmas.List.{append_assoc}
@@ -38,12 +39,6 @@ equal_is_same a b e = subst (λ x. same_event a x ≡ true) e (itself a)
 
 -- Cuts. --------------------------------------------------------------------------------------------
 
-none_some : {A : Type 0} → (x : A) → None ≡ Some x → ⊥
-none_some x e = grind arith
-
-some_same : {A : Type 0} → (x y : A) → Some x ≡ Some y → x ≡ y
-some_same x y e = cc
-
 -- what is left of a history that was cut before
 abbrev IsCutOf : List Entry → List Entry → Cut → Type 0
 IsCutOf h rest c = onto h rest ≡ onto c.past c.rest
@@ -51,28 +46,28 @@ IsCutOf h rest c = onto h rest ≡ onto c.past c.rest
 -- What is computed is so. --------------------------------------------------------------------------
 
 plays_so : (es : List Event) (h rest : List Entry) (c : Cut) → plays_on es h rest ≡ Some c → Plays es h c.past × IsCutOf h rest c
-plays_so [] h rest c e = (ap (λ x. x.past) (some_same (record { past = h; rest = rest }) c e), ap (λ x. onto x.past x.rest) (some_same (record { past = h; rest = rest }) c e))
-plays_so (v ∷ es) h [] c e = absurd (none_some c e)
+plays_so [] h rest c e = (ap (λ x. x.past) (same_Some (record { past = h; rest = rest }) c e), ap (λ x. onto x.past x.rest) (same_Some (record { past = h; rest = rest }) c e))
+plays_so (v ∷ es) h [] c e = absurd (none-some c e)
 plays_so (v ∷ es) h (x ∷ rest) c e = by_test (plays_so es (x ∷ h) rest c) (same_event x.event v) refl e
   where
     by_test : (plays_on es (x ∷ h) rest ≡ Some c → Plays es (x ∷ h) c.past × IsCutOf (x ∷ h) rest c) → (b : Bool) → same_event x.event v ≡ b → (if b then plays_on es (x ∷ h) rest else None) ≡ Some c → Plays (v ∷ es) h c.past × IsCutOf h (x ∷ rest) c
-    by_test i false s f = absurd (none_some c f)
+    by_test i false s f = absurd (none-some c f)
     by_test i true s f = let r = i f in ((x, same_is_equal x.event v s, r.0), r.1)
 
 stops_so : (p : Plan) (h : List Entry) (c : Cut) (o : Option Event) → next_of_drain p h ≡ o → stops_here o (Some (record { past = h; rest = [] })) ≡ Some c → Empties p h c.past × IsCutOf h [] c
-stops_so p h c (Some v) n e = absurd (none_some c e)
-stops_so p h c None n e = subst (λ x. Empties p h x.past × IsCutOf h [] x) (some_same (record { past = h; rest = [] }) c e) (Emptied h n, refl)
+stops_so p h c (Some v) n e = absurd (none-some c e)
+stops_so p h c None n e = subst (λ x. Empties p h x.past × IsCutOf h [] x) (same_Some (record { past = h; rest = [] }) c e) (Emptied h n, refl)
 
 empties_so : (p : Plan) (h rest : List Entry) (c : Cut) → empties_on p h rest ≡ Some c → Empties p h c.past × IsCutOf h rest c
 empties_so p h [] c e = stops_so p h c (next_of_drain p h) refl e
 empties_so p h (x ∷ rest) c e = by_next (empties_so p (x ∷ h) rest c) (next_of_drain p h) refl e
   where
     by_test : (empties_on p (x ∷ h) rest ≡ Some c → Empties p (x ∷ h) c.past × IsCutOf (x ∷ h) rest c) → (v : Event) → next_of_drain p h ≡ Some v → (b : Bool) → same_event x.event v ≡ b → (if b then empties_on p (x ∷ h) rest else None) ≡ Some c → Empties p h c.past × IsCutOf h (x ∷ rest) c
-    by_test i v n false s g = absurd (none_some c g)
+    by_test i v n false s g = absurd (none-some c g)
     by_test i v n true s g = let r = i g in (Goes h c.past x (n ∙ ap (λ y. Some y) (sym (same_is_equal x.event v s))) r.0, r.1)
 
     by_next : (empties_on p (x ∷ h) rest ≡ Some c → Empties p (x ∷ h) c.past × IsCutOf (x ∷ h) rest c) → (o : Option Event) → next_of_drain p h ≡ o → goes_on o x.event (Some (record { past = h; rest = x ∷ rest })) (empties_on p (x ∷ h) rest) ≡ Some c → Empties p h c.past × IsCutOf h (x ∷ rest) c
-    by_next i None n f = subst (λ y. Empties p h y.past × IsCutOf h (x ∷ rest) y) (some_same (record { past = h; rest = x ∷ rest }) c f) (Emptied h n, refl)
+    by_next i None n f = subst (λ y. Empties p h y.past × IsCutOf h (x ∷ rest) y) (same_Some (record { past = h; rest = x ∷ rest }) c f) (Emptied h n, refl)
     by_next i (Some v) n f = by_test i v n (same_event x.event v) refl f
 
 -- one after the other
@@ -82,7 +77,7 @@ record IsBoth (o : Option Cut) (f : List Entry → List Entry → Option Cut) (c
   pub second : f middle.past middle.rest ≡ Some c
 
 both : (o : Option Cut) (f : List Entry → List Entry → Option Cut) (c : Cut) → then_cut o f ≡ Some c → IsBoth o f c
-both None f c e = absurd (none_some c e)
+both None f c e = absurd (none-some c e)
 both (Some m) f c e = record { middle = m; first = refl; second = e }
 
 drains_so : (p : Plan) (h rest : List Entry) (c : Cut) → drains_on p h rest ≡ Some c → Drains p h c.past × IsCutOf h rest c

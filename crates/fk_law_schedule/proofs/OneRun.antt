@@ -1,5 +1,6 @@
 -- A deployment has one run: each event of its schedule gives one entry.
 use Rattle.std.proofs.Common.{◌≡◌, List, [], ◌∷◌, refl, sym, ◌∙◌, ap, subst, arith, Some, None}
+use Rattle.std.proofs.lemmas.Option.{none-some, same_Some}
 use Rattle.fk_print.specs.declared.entry.Entry.{Entry}
 use Rattle.fk_print.specs.declared.event.Event.{Event}
 use Rattle.fk_script.specs.declared.deployment.Turn.{Turn}
@@ -44,21 +45,15 @@ plays_once p (e ∷ es) h j k (x, a, r) (y, b, s) l m =
     same : x ≡ y
     same = one_entry p h x y (plays_back p es (x ∷ h) j r l) (plays_back p es (y ∷ h) k s m) (a ∙ sym b)
 
-none_some : {A : Type 0} → (x : A) → None ≡ Some x → ⊥
-none_some x e = grind arith
-
-some_same : {A : Type 0} → (x y : A) → Some x ≡ Some y → x ≡ y
-some_same x y e = cc
-
 empties_once : (p : Plan) (h j k : List Entry) → Empties p h j → Empties p h k → IsLawful p j → IsLawful p k → j ≡ k
 empties_once p h _ _ (Emptied _ e) (Emptied _ f) l m = refl
-empties_once p h _ k (Emptied _ e) (Goes _ _ y f s) l m = absurd (none_some y.event (sym e ∙ f))
-empties_once p h j _ (Goes _ _ x e r) (Emptied _ f) l m = absurd (none_some x.event (sym f ∙ e))
+empties_once p h _ k (Emptied _ e) (Goes _ _ y f s) l m = absurd (none-some y.event (sym e ∙ f))
+empties_once p h j _ (Goes _ _ x e r) (Emptied _ f) l m = absurd (none-some x.event (sym f ∙ e))
 empties_once p h j k (Goes _ _ x e r) (Goes _ _ y f s) l m =
     empties_once p (x ∷ h) j k r (subst (λ z. Empties p (z ∷ h) k) (sym same) s) l m
   where
     same : x ≡ y
-    same = one_entry p h x y (empties_back p (x ∷ h) j r l) (empties_back p (y ∷ h) k s m) (some_same x.event y.event (sym e ∙ f))
+    same = one_entry p h x y (empties_back p (x ∷ h) j r l) (empties_back p (y ∷ h) k s m) (same_Some x.event y.event (sym e ∙ f))
 
 drains_once : (p : Plan) (h j k : List Entry) → Drains p h j → Drains p h k → IsLawful p j → IsLawful p k → j ≡ k
 drains_once p h j k r s l m = empties_once p r.begun j k r.empties (subst (λ z. Empties p z k) (sym same) s.empties) l m

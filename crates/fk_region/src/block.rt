@@ -26,7 +26,8 @@ impl Block {
     /// Writes over the front of the block's bytes.
     pub fn fill(&mut self, bytes: &[u8])
         requires { length bytes.now ≤ 256 }
-        ensures { self.new ≡ record self.old { bytes = bytes.now ++ drop (length bytes.now) self.old.bytes } }
+        ensures { self.new
+            ≡ record self.old { bytes = bytes.now ++ drop (length bytes.now) self.old.bytes } }
     {
         self.bytes[..bytes.len()].copy_from_slice(bytes);
     }

@@ -64,7 +64,8 @@ pub fn release(blocks: &mut [Block], first: usize, count: usize, free: usize)
 pub fn read(blocks: &[Block], first: usize, into: &mut [u8])
     requires inside { HasChain blocks.now first (blocks_of (length into.old)) }
     requires whole { AreWhole blocks.now }
-    ensures { into.new ≡ bytes_at (next_in blocks.now) (bytes_in blocks.now) first (length into.old) }
+    ensures { into.new
+        ≡ bytes_at (next_in blocks.now) (bytes_in blocks.now) first (length into.old) }
 {
     let mut at = first;
     let mut done = 0;

@@ -52,8 +52,12 @@ fn has_separator(words: &[String]) -> bool
 
 /// What `clap` finds in the words, or none where it finds a fault.
 fn matches_in<'a>(alloc: Global, words: &'a [String]) -> Result<Option<ArgMatches<'a>>, NoMemory>
-    ensures some { IfOk result (λ o. IfSome o (λ m. (fault_of app (map string_bytes words.entry.now) ≡ []) × (rows_of (found_of m) ≡ matches_of app (map string_bytes words.entry.now)))) }
-    ensures none { IfOk result (λ o. IfNone o (fault_of app (map string_bytes words.entry.now) ≢ [])) }
+    ensures fits { IfOk result (λ o. IfSome o (λ m.
+        fault_of app (map string_bytes words.entry.now) ≡ [])) }
+    ensures rows { IfOk result (λ o. IfSome o (λ m.
+        rows_of (found_of m) ≡ matches_of app (map string_bytes words.entry.now))) }
+    ensures none { IfOk result (λ o. IfNone o
+        (fault_of app (map string_bytes words.entry.now) ≢ [])) }
 {
     match command(alloc)?.try_get_matches_from(words) {
         Ok(matches) => Ok(Some(matches)),
@@ -86,7 +90,8 @@ fn command<'a>(alloc: Global) -> Result<Command<'a>, AllocError>
 
 /// What is asked for with these values; both stand or neither.
 fn meaning(summary: bool, number: Option<&str>, size: Option<&str>) -> Option<Asked>
-    ensures meaning { result ≡ load_of summary (option_map (λ s. s.now) number.entry) (option_map (λ s. s.now) size.entry) }
+    ensures meaning { result ≡ load_of summary (option_map (λ s. s.now) number.entry)
+        (option_map (λ s. s.now) size.entry) }
     ensures sized { IfSome result (λ a. IfSome a.load IsSized) }
 {
     match (number, size) {

@@ -30,11 +30,12 @@ pub returns-in-Some-clause-asked : goal.returns-in-Some-clause-asked
 returns-in-Some-clause-asked c =
     let plain : has_dashes (map string_bytes c.args.words.now) ≡ false =
     sym (list_any-map (λ word. bytes_eq word (codes "--")) string_bytes c.args.words.now) ∙ (sym c.has_separator.ensures ∙ c.if-has_separator.false) in
-    let facts = rw c.in-Some.is at c.in_ok-matches_in.ensures.some in
-    let means = accepted _ plain facts.0 in
+    let fits = rw c.in-Some.is at c.in_ok-matches_in.ensures.fits in
+    let rows = rw c.in-Some.is at c.in_ok-matches_in.ensures.rows in
+    let means = accepted _ plain fits in
     let found = found_of c.in-Some.matches in
     same_load _ _ _ _ _ _ _
-    (flag_says _ _ _ (one_text-rows found (codes "summary") ∙ (ap (one_of (codes "summary")) facts.1 ∙ means.flagged)) c.get_flag.ensures.value c.get_flag.ensures.other)
-    (c.get_str.ensures ∙ (first_value-rows found (codes "gen") ∙ (ap (first_of (codes "gen")) facts.1 ∙ means.values gen)))
-    (c.get_str-in-Some.ensures ∙ (first_value-rows found (codes "size") ∙ (ap (first_of (codes "size")) facts.1 ∙ means.values size)))
+    (flag_says _ _ _ (one_text-rows found (codes "summary") ∙ (ap (one_of (codes "summary")) rows ∙ means.flagged)) c.get_flag.ensures.value c.get_flag.ensures.other)
+    (c.get_str.ensures ∙ (first_value-rows found (codes "gen") ∙ (ap (first_of (codes "gen")) rows ∙ means.values gen)))
+    (c.get_str-in-Some.ensures ∙ (first_value-rows found (codes "size") ∙ (ap (first_of (codes "size")) rows ∙ means.values size)))
     c.meaning.ensures.meaning ∙ sym (meant_by_line (map string_bytes c.args.words.now) ∙ ap end means.line)

@@ -1,8 +1,8 @@
 use Rattle.std.proofs.Common.{refl, ◌∙◌}
+use Rattle.fk_tree.proofs.Keeping.{any_err}
 use Rattle.fk_index.specs.Drafts.{node_over}
 use Rattle.fk_index.specs.Slots.{record_at}
 use Rattle.fk_index.specs.Tables.{table_of}
-use Rattle.fk_index.proofs.Finding.{err_any}
 use Rattle.fk_index.proofs.Meanings.{same_all, wrote_all}
 use Rattle.fk_index.proofs.Parts.{all_parts}
 use Rattle.fk_index.proofs.index_table.IndexTable.write_all.Goals as goal
@@ -15,4 +15,4 @@ returns-clause-ok c =
     c.done_after-self.ensures refl refl
 
 pub returns-in_err-drafts-clause-err : goal.returns-in_err-drafts-clause-err
-returns-in_err-drafts-clause-err c = err_any c.from_residual-in_err-drafts.result (same_all (table_of c.args.self.now) _ c.in_err-drafts.ensures.err.records (λ s. refl) refl refl refl)
+returns-in_err-drafts-clause-err c = any_err c.from_residual-in_err-drafts.result (same_all (table_of c.args.self.now) _ c.in_err-drafts.ensures.err.records (λ s. refl) refl refl refl)
