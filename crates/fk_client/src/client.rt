@@ -8,6 +8,7 @@ use crate::lists::command_after;
 use crate::reading::Reading;
 use crate::sent_list::SentList;
 use fk_script::{Command, Commands};
+use fk_wire::Reader;
 use std::alloc::Global;
 
 /// The client of a session: it makes one operation per step, on the services that it is lent.
@@ -28,6 +29,8 @@ pub struct Client {
     pub(crate) reading: Option<Reading>,
     /// Whether it knows that its session is closed.
     pub(crate) closed: bool,
+    /// The text of the message that it took last.
+    pub(crate) reader: Reader,
     ghost few: { length commands < 2 ^ 32 },
     ghost reads: { is_some reading ≡ true
         → asks_read (nth (asks_of commands) (begun + 1)) ≡ true },
@@ -54,6 +57,7 @@ impl Client {
             owed: None,
             reading: None,
             closed: false,
+            reader: Reader::new(alloc),
         }
     }
 

@@ -21,5 +21,5 @@ mod want;
 pub use client::Client;
 pub use knowing::{comes_to_the_same, makes_the_same_op};
 pub use reading::Reading;
-pub use taking::head_text;
+pub use taking::read_head;
 pub use unanswered::{Outcome, Unanswered};

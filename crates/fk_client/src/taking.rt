@@ -1,6 +1,6 @@
 //! A client takes the message at the head of its inbox.
 
-ghost use Rattle.std.specs.Prelude.{◌≡◌, [], true, if◌then◌else◌, is_some, None, Some, IfOk};
+ghost use Rattle.std.specs.Prelude.{◌≡◌, [], true, if◌then◌else◌, is_some, None, Some, IfOk, OnOk};
 ghost use Rattle.fk_queue.specs.Lanes.{is_session};
 ghost use Rattle.fk_queue.specs.Letters.{head_bytes, head_number};
 ghost use Rattle.fk_queue.specs.Meaning.{has_lane};
@@ -28,30 +28,36 @@ use crate::unanswered::Outcome;
 use fk_base::NoMemory;
 use fk_print::{Line, Lines, Op};
 use fk_queue::{Ack, Lane, Post};
-use fk_wire::{Fired, Tell, WireFault, decode_tell};
+use fk_wire::{Fired, Reader, Tell, WireFault, decode_tell};
 use std::alloc::Global;
 
-// the text of the message at the head of a lane
-pub fn head_text(alloc: Global, post: &Post, lane: Lane) -> Result<Vec<u8>, NoMemory>
+/// Reads the text of the message at the head of a lane.
+pub fn read_head(post: &Post, lane: Lane, reader: &mut Reader) -> Result<(), NoMemory>
     requires lane { has_lane (post_of post.now) lane ≡ true }
     requires head { is_some (head_number ((post_of post.now).lanes lane)) ≡ true }
-    ensures { IfOk result (λ text. text.items ≡ head_bytes ((post_of post.now).lanes lane)) }
+    ensures { OnOk result (reader.new.text.items
+        ≡ head_bytes ((post_of post.now).lanes lane)) }
 {
-    let mut text = Vec::from_elem(alloc, 0, post.head_len(lane))?;
-    post.copy_head(lane, text.as_mut_slice());
-    Ok(text)
+    reader.text.resize(post.head_len(lane), 0)?;
+    post.copy_head(lane, reader.text.as_mut_slice());
+    Ok(())
 }
 
 // the message at the head of a lane
-fn head_message(alloc: Global, post: &Post, lane: Lane) -> Result<Tell, NoMemory>
+fn head_message(
+    alloc: Global,
+    post: &Post,
+    lane: Lane,
+    reader: &mut Reader,
+) -> Result<Tell, NoMemory>
     requires lane { has_lane (post_of post.now) lane ≡ true }
     requires head { is_some (head_number ((post_of post.now).lanes lane)) ≡ true }
     requires readable { IsReadable ((post_of post.now).lanes lane).waiting }
     ensures { (m : Tell) → IsTold ((post_of post.now).lanes lane).waiting (Some m)
         → IfOk result (λ n. n ≡ m) }
 {
-    let text = head_text(alloc, post, lane)?;
-    match decode_tell(alloc, text.as_slice()) {
+    read_head(post, lane, reader)?;
+    match decode_tell(alloc, reader.text.as_slice()) {
         Ok(message) => Ok(message),
         Err(WireFault::Malformed) => unreachable!(),
         Err(WireFault::NoMemory) => Err(NoMemory),
@@ -85,7 +91,7 @@ impl Client {
         ensures user { KeepsUser result }
     {
         let lane = Lane::Inbox(self.session);
-        let message = head_message(self.alloc, post, lane)?;
+        let message = head_message(self.alloc, post, lane, &mut self.reader)?;
         match post.ack(lane, number) {
             Ack::Acked => self.told(message),
             Ack::NotHead => unreachable!(),

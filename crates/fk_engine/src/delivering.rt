@@ -32,7 +32,7 @@ impl<T: Table> Parts<T> {
         let Some(k) = self.services.post.head(lane) else {
             return Ok((Op::Idle, Lines::new(self.alloc)));
         };
-        let message = sent_at(self.alloc, &self.services.post, lane)?;
+        let message = sent_at(self.alloc, &self.services.post, lane, &mut self.reader)?;
         let function = self.functions.next();
         let follower = Follower::start(self.alloc, function, session, k, message);
         self.functions.start(Machine::Follower(follower))?;
@@ -56,7 +56,7 @@ impl<T: Table> Parts<T> {
         let Some(tx) = self.services.post.head(Lane::Leader) else {
             return Ok((Op::Idle, Lines::new(self.alloc)));
         };
-        let message = pushed_at(self.alloc, &self.services.post, Lane::Leader)?;
+        let message = pushed_at(self.alloc, &self.services.post, Lane::Leader, &mut self.reader)?;
         let function = self.functions.next();
         let leader = Leader::start(self.alloc, function, tx, message);
         self.functions.start(Machine::Leader(leader))?;
@@ -75,7 +75,7 @@ impl<T: Table> Parts<T> {
         let Some(note) = self.services.post.head(Lane::Watch) else {
             return Ok((Op::Idle, Lines::new(self.alloc)));
         };
-        let message = note_at(self.alloc, &self.services.post, Lane::Watch)?;
+        let message = note_at(self.alloc, &self.services.post, Lane::Watch, &mut self.reader)?;
         let function = self.functions.next();
         let teller = Teller::start(self.alloc, function, note, message);
         self.functions.start(Machine::Teller(teller))?;

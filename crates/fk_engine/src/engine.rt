@@ -23,6 +23,7 @@ use fk_queue::Post;
 use fk_store::Table;
 use fk_user::UserStore;
 use fk_watch::WatchTable;
+use fk_wire::Reader;
 use std::alloc::Global;
 
 /// From so many entries on there is no memory for a further one.
@@ -68,6 +69,7 @@ impl<T: Table> Engine<T> {
                     watches: WatchTable::new(alloc)?,
                     user: UserStore::new(alloc)?,
                 },
+                reader: Reader::new(alloc),
             },
             spent: false,
         })

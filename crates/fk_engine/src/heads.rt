@@ -13,13 +13,18 @@ ghost use Rattle.fk_wire.specs.declared.message.Sent.{Sent};
 ghost use Rattle.fk_engine.specs.Heads.{IsHead, IsReadable};
 
 use fk_base::NoMemory;
-use fk_client::head_text;
+use fk_client::read_head;
 use fk_queue::{Lane, Post};
-use fk_wire::{Note, Pushed, Sent, WireFault, decode_note, decode_pushed, decode_send};
+use fk_wire::{Note, Pushed, Reader, Sent, WireFault, decode_note, decode_pushed, decode_send};
 use std::alloc::Global;
 
 /// The request at the head of a session's lane.
-pub fn sent_at(alloc: Global, post: &Post, lane: Lane) -> Result<Sent, NoMemory>
+pub fn sent_at(
+    alloc: Global,
+    post: &Post,
+    lane: Lane,
+    reader: &mut Reader,
+) -> Result<Sent, NoMemory>
     requires lane { has_lane (post_of post.now) lane ≡ true }
     requires head { is_some (head_number ((post_of post.now).lanes lane)) ≡ true }
     requires readable { IsReadable IsSentText ((post_of post.now).lanes lane).waiting }
@@ -28,8 +33,8 @@ pub fn sent_at(alloc: Global, post: &Post, lane: Lane) -> Result<Sent, NoMemory>
     ensures back { (m : Sent) → IsHead IsSentText ((post_of post.now).lanes lane).waiting (Some m)
         → IfOk result (λ n. n ≡ m) }
 {
-    let text = head_text(alloc, post, lane)?;
-    match decode_send(alloc, text.as_slice()) {
+    read_head(post, lane, reader)?;
+    match decode_send(alloc, reader.text.as_slice()) {
         Ok(message) => Ok(message),
         Err(WireFault::Malformed) => unreachable!(),
         Err(WireFault::NoMemory) => Err(NoMemory),
@@ -37,7 +42,12 @@ pub fn sent_at(alloc: Global, post: &Post, lane: Lane) -> Result<Sent, NoMemory>
 }
 
 /// The push at the head of the leader's lane.
-pub fn pushed_at(alloc: Global, post: &Post, lane: Lane) -> Result<Pushed, NoMemory>
+pub fn pushed_at(
+    alloc: Global,
+    post: &Post,
+    lane: Lane,
+    reader: &mut Reader,
+) -> Result<Pushed, NoMemory>
     requires lane { has_lane (post_of post.now) lane ≡ true }
     requires head { is_some (head_number ((post_of post.now).lanes lane)) ≡ true }
     requires readable { IsReadable IsPushedText ((post_of post.now).lanes lane).waiting }
@@ -46,8 +56,8 @@ pub fn pushed_at(alloc: Global, post: &Post, lane: Lane) -> Result<Pushed, NoMem
     ensures back { (m : Pushed) → IsHead IsPushedText ((post_of post.now).lanes lane).waiting
         (Some m) → IfOk result (λ n. n ≡ m) }
 {
-    let text = head_text(alloc, post, lane)?;
-    match decode_pushed(alloc, text.as_slice()) {
+    read_head(post, lane, reader)?;
+    match decode_pushed(alloc, reader.text.as_slice()) {
         Ok(message) => Ok(message),
         Err(WireFault::Malformed) => unreachable!(),
         Err(WireFault::NoMemory) => Err(NoMemory),
@@ -55,7 +65,12 @@ pub fn pushed_at(alloc: Global, post: &Post, lane: Lane) -> Result<Pushed, NoMem
 }
 
 /// The note at the head of the watch lane.
-pub fn note_at(alloc: Global, post: &Post, lane: Lane) -> Result<Note, NoMemory>
+pub fn note_at(
+    alloc: Global,
+    post: &Post,
+    lane: Lane,
+    reader: &mut Reader,
+) -> Result<Note, NoMemory>
     requires lane { has_lane (post_of post.now) lane ≡ true }
     requires head { is_some (head_number ((post_of post.now).lanes lane)) ≡ true }
     requires readable { IsReadable IsNoteText ((post_of post.now).lanes lane).waiting }
@@ -64,8 +79,8 @@ pub fn note_at(alloc: Global, post: &Post, lane: Lane) -> Result<Note, NoMemory>
     ensures back { (m : Note) → IsHead IsNoteText ((post_of post.now).lanes lane).waiting (Some m)
         → IfOk result (λ n. n ≡ m) }
 {
-    let text = head_text(alloc, post, lane)?;
-    match decode_note(alloc, text.as_slice()) {
+    read_head(post, lane, reader)?;
+    match decode_note(alloc, reader.text.as_slice()) {
         Ok(message) => Ok(message),
         Err(WireFault::Malformed) => unreachable!(),
         Err(WireFault::NoMemory) => Err(NoMemory),

@@ -5,6 +5,7 @@ use crate::services::Services;
 use crate::times::Times;
 use fk_client::Client;
 use fk_store::Table;
+use fk_wire::Reader;
 use std::alloc::Global;
 
 /// The times, the functions, the clients and the services.
@@ -16,4 +17,6 @@ pub struct Parts<T: Table> {
     /// In the order of their sessions.
     pub(crate) clients: Vec<Client>,
     pub(crate) services: Services<T>,
+    /// The text of the message that a function started on last.
+    pub(crate) reader: Reader,
 }
