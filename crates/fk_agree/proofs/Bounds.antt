@@ -2,7 +2,7 @@
 use Rattle.std.specs.Prelude.{◌-◌, ◌^◌}
 use Rattle.std.proofs.Common.{ℕ, ◌+◌, ◌<◌, ◌≤◌, List, length, arith}
 use Rattle.fk_print.specs.declared.entry.Entry.{Entry}
-use Rattle.fk_wire.specs.Limits.{IsNumber}
+use Rattle.fk_base.specs.Limits.{IsNumber}
 use Rattle.fk_queue.specs.declared.lane.Lane.{Lane}
 use Rattle.fk_stand.specs.Posts.{lane_after}
 use Rattle.fk_stand.proofs.Counting.{lanes_are_bounded}

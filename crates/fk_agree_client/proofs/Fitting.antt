@@ -12,7 +12,8 @@ use Rattle.fk_queue.specs.Lanes.{is_session}
 use Rattle.fk_queue.specs.declared.lane.Lane.{Lane}
 use Rattle.fk_queue.specs.declared.lane.Lane.TheVariants as lane
 use Rattle.fk_queue.specs.declared.letter.Letter.{Letter}
-use Rattle.fk_wire.specs.Limits.{IsLimitedRequest, IsNumber}
+use Rattle.fk_wire.specs.Limits.{IsLimitedRequest}
+use Rattle.fk_base.specs.Limits.{IsNumber}
 use Rattle.fk_wire.specs.declared.version.Version.TheVariants as version
 use Rattle.fk_stand.specs.Posts.{lane_after, post_after}
 use Rattle.fk_stand.proofs.Counting.{lanes_are_bounded}

@@ -10,7 +10,7 @@ use Rattle.fk_print.specs.declared.op.Op.TheVariants as op
 use Rattle.fk_queue.specs.Letters.{first_number, head_bytes, head_number}
 use Rattle.fk_queue.specs.declared.lane.Lane.TheVariants as lane
 use Rattle.fk_queue.specs.declared.letter.Letter.{Letter}
-use Rattle.fk_wire.specs.Limits.{IsNumber}
+use Rattle.fk_base.specs.Limits.{IsNumber}
 use Rattle.fk_wire.specs.NoteText.{IsNoteText}
 use Rattle.fk_wire.specs.PushedText.{IsPushedText}
 use Rattle.fk_wire.specs.SentText.{IsSentText}

@@ -9,7 +9,7 @@ use Rattle.fk_print.specs.declared.event.Event.TheVariants as event
 use Rattle.fk_print.specs.declared.op.Op.{Op}
 use Rattle.fk_print.specs.declared.op.Op.TheVariants as op
 use Rattle.fk_queue.specs.declared.lane.Lane.TheVariants as lane
-use Rattle.fk_wire.specs.Limits.{IsNumber}
+use Rattle.fk_base.specs.Limits.{IsNumber}
 use Rattle.fk_wire.specs.declared.message.Tell.{Tell}
 use Rattle.fk_queue.specs.Meaning as post
 use Rattle.fk_store.specs.Meaning as table

@@ -3,7 +3,7 @@ use Rattle.std.specs.Prelude.{◌≡◌, ◌<◌, ◌^◌, true, ⊤, List, ◌�
 use Rattle.fk_print.specs.declared.entry.Entry.{Entry}
 use Rattle.fk_print.specs.declared.event.Event.{Event}
 use Rattle.fk_print.specs.declared.event.Event.TheVariants as event
-use Rattle.fk_wire.specs.Limits.{IsNumber}
+use Rattle.fk_base.specs.Limits.{IsNumber}
 use Rattle.fk_spec.specs.Plan.{Plan}
 use Rattle.fk_spec.specs.Next.{names_client, next_entry}
 use Rattle.fk_engine.specs.Engine.{made}

@@ -1,7 +1,7 @@
 -- An engine that stands where a history says.
 use Rattle.std.specs.Prelude.{◌≡◌, ℕ, List, length, Option, Some, None}
 use Rattle.fk_print.specs.declared.entry.Entry.{Entry}
-use Rattle.fk_wire.specs.Limits.{IsNumber}
+use Rattle.fk_base.specs.Limits.{IsNumber}
 use Rattle.fk_stand.specs.Standing.{Standing}
 use Rattle.fk_spec.specs.Plan.{Plan, nth}
 use Rattle.fk_spec.specs.Start.{clock_of, starts_of}

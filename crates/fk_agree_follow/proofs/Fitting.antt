@@ -9,7 +9,7 @@ use Rattle.fk_store.specs.Meaning as table
 use Rattle.fk_store.specs.declared.outcome.Outcome.TheVariants as kept
 use Rattle.fk_follow.specs.Fit.{HasSession, IsFit, IsLimited, IsLimitedOutcome}
 use Rattle.fk_follow.specs.Meaning.{Meaning}
-use Rattle.fk_wire.specs.Limits.{IsNumber}
+use Rattle.fk_base.specs.Limits.{IsNumber}
 use Rattle.fk_stand.specs.Tables.{kept_as}
 use Rattle.fk_spec.specs.Plan.{Plan, is_client}
 use Rattle.fk_spec.specs.Start.{clock_of, pushes_of, seen_with, sends_of}

@@ -16,7 +16,7 @@ use Rattle.fk_follow.specs.Meaning.{Meaning, is_ended, own_moment, started}
 use Rattle.fk_follow.specs.Next.{after_step}
 use Rattle.fk_follow.specs.Operation.{step_op}
 use Rattle.fk_follow.specs.Services.{post_after_step, push_at, table_after_step}
-use Rattle.fk_wire.specs.Limits.{IsNumber}
+use Rattle.fk_base.specs.Limits.{IsNumber}
 use Rattle.fk_wire.specs.SentText.{IsSent, IsSentText}
 use Rattle.fk_wire.specs.declared.message.Sent.{Sent}
 use Rattle.fk_stand.specs.Messages.{push_message_of}

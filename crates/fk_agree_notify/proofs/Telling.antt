@@ -13,7 +13,7 @@ use Rattle.fk_watch.specs.Meaning as watches
 use Rattle.fk_watch.specs.Notes.{fired_as, firings_as}
 use Rattle.fk_watch.specs.Telling.{Meaning, calm_op, going_to, is_armed, is_end, is_ended, started, step_op}
 use Rattle.fk_watch.specs.TellingFit.{CanTell, IsFit}
-use Rattle.fk_wire.specs.Limits.{IsNumber}
+use Rattle.fk_base.specs.Limits.{IsNumber}
 use Rattle.fk_wire.specs.NoteText.{OneNote}
 use Rattle.fk_wire.specs.declared.version.Version.TheVariants as version
 use Rattle.fk_wire.proofs.NoteBack.{notes}

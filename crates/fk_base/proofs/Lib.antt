@@ -1,3 +1,4 @@
 mod Joins
+pub mod Numerals
 mod PathOrder
 pub mod PathTexts

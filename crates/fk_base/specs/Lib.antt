@@ -1,6 +1,8 @@
 pub mod Code
+pub mod Digits
 pub mod Faults
 pub mod InMemory
+pub mod Limits
 pub mod Path
 pub mod PathLaws
 pub mod Sink

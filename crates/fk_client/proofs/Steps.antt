@@ -3,7 +3,7 @@ use Rattle.std.proofs.Common.{◌≡◌, ◌+◌, ℕ, Bool, true, false, cond, 
 use Rattle.std.specs.Prelude.{is_some, nat_lt}
 use Rattle.fk_print.specs.declared.op.Op.{Op}
 use Rattle.fk_print.specs.declared.op.Op.TheVariants as op
-use Rattle.fk_queue.specs.Letters.{first_number}
+use Rattle.fk_queue.specs.Letters.{first_bytes, first_number}
 use Rattle.fk_queue.specs.Meaning as post
 use Rattle.fk_queue.specs.declared.letter.Letter.{Letter}
 use Rattle.fk_store.specs.Meaning as table
@@ -11,6 +11,8 @@ use Rattle.fk_tree.specs.Ask.{path_asked}
 use Rattle.fk_tree.specs.Watch.{kind_asked}
 use Rattle.fk_user.specs.Meaning as user
 use Rattle.fk_watch.specs.Meaning.{Watches}
+use Rattle.fk_wire.specs.Json.{IsText}
+use Rattle.fk_wire.specs.TellText.{IsTellText}
 use Rattle.fk_wire.specs.declared.message.Tell.{Tell}
 use Rattle.fk_wire.specs.declared.message.Tell.TheVariants as tell
 use Rattle.fk_spec.specs.Client.{Client, Reading, Target, begin_asked, first_held, held_op, look_op, next_asked, number_read, register_asked, register_for, take_op, target_of, watch_or}
@@ -20,7 +22,7 @@ use Rattle.fk_client.specs.Known.{by_outcome}
 use Rattle.fk_client.specs.Meaning.{Meaning, next_ask}
 use Rattle.fk_client.specs.Operation.{calm_op, failed_if, is_armed, or_failed, step_op}
 use Rattle.fk_client.specs.Sighting.{message_told, sight_by}
-use Rattle.fk_client.specs.Told.{IsTold}
+use Rattle.fk_client.specs.Told.{IsReadable, IsTold}
 use Rattle.fk_client.specs.declared.unanswered.Unanswered.{Unanswered}
 
 -- ---- the message at the head
@@ -36,6 +38,16 @@ pub none_told : (xs : List Letter) (o : Option Tell) → first_number xs ≡ Non
 none_told [] None e i = refl
 none_told [] (Some m) e i = absurd i
 none_told (x ∷ xs) o e i = absurd (grind arith)
+
+-- the bytes at the head are a message's text
+pub told_text : (xs : List Letter) → is_some (first_number xs) ≡ true → IsReadable xs → IsText IsTellText (first_bytes xs)
+told_text [] s r = absurd (cc)
+told_text (x ∷ xs) s r = r
+
+-- and it is that of what is told
+pub text_told : (xs : List Letter) (m : Tell) → IsTold xs (Some m) → IsTellText (first_bytes xs) m
+text_told [] m i = absurd i
+text_told (x ∷ xs) m i = i
 
 -- ---- the operation
 

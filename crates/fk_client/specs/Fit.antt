@@ -5,7 +5,8 @@ use Rattle.fk_queue.specs.Meaning as post
 use Rattle.fk_queue.specs.declared.lane.Lane.TheVariants as lane
 use Rattle.fk_store.specs.Meaning as table
 use Rattle.fk_watch.specs.Meaning.{Watches}
-use Rattle.fk_wire.specs.Limits.{IsLimitedRequest, IsNumber}
+use Rattle.fk_wire.specs.Limits.{IsLimitedRequest}
+use Rattle.fk_base.specs.Limits.{IsNumber}
 use Rattle.fk_spec.specs.Plan.{Ask, Want, Unfit, Writes, Reads}
 use Rattle.fk_client.specs.Idle.{is_idle}
 use Rattle.fk_client.specs.Meaning.{Meaning, next_ask}

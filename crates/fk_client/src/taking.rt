@@ -28,7 +28,7 @@ use crate::unanswered::Outcome;
 use fk_base::NoMemory;
 use fk_print::{Line, Lines, Op};
 use fk_queue::{Ack, Lane, Post};
-use fk_wire::{Fired, Reader, Tell, WireFault, decode_tell};
+use fk_wire::{Fired, Reader, Tell, tell_of};
 use std::alloc::Global;
 
 /// Reads the text of the message at the head of a lane.
@@ -57,11 +57,7 @@ fn head_message(
         → IfOk result (λ n. n ≡ m) }
 {
     read_head(post, lane, reader)?;
-    match decode_tell(alloc, reader.text.as_slice()) {
-        Ok(message) => Ok(message),
-        Err(WireFault::Malformed) => unreachable!(),
-        Err(WireFault::NoMemory) => Err(NoMemory),
-    }
+    tell_of(alloc, reader)
 }
 
 impl Client {

@@ -15,7 +15,7 @@ ghost use Rattle.fk_engine.specs.Heads.{IsHead, IsReadable};
 use fk_base::NoMemory;
 use fk_client::read_head;
 use fk_queue::{Lane, Post};
-use fk_wire::{Note, Pushed, Reader, Sent, WireFault, decode_note, decode_pushed, decode_send};
+use fk_wire::{Note, Pushed, Reader, Sent, note_of, pushed_of, sent_of};
 use std::alloc::Global;
 
 /// The request at the head of a session's lane.
@@ -34,11 +34,7 @@ pub fn sent_at(
         → IfOk result (λ n. n ≡ m) }
 {
     read_head(post, lane, reader)?;
-    match decode_send(alloc, reader.text.as_slice()) {
-        Ok(message) => Ok(message),
-        Err(WireFault::Malformed) => unreachable!(),
-        Err(WireFault::NoMemory) => Err(NoMemory),
-    }
+    sent_of(alloc, reader)
 }
 
 /// The push at the head of the leader's lane.
@@ -57,11 +53,7 @@ pub fn pushed_at(
         (Some m) → IfOk result (λ n. n ≡ m) }
 {
     read_head(post, lane, reader)?;
-    match decode_pushed(alloc, reader.text.as_slice()) {
-        Ok(message) => Ok(message),
-        Err(WireFault::Malformed) => unreachable!(),
-        Err(WireFault::NoMemory) => Err(NoMemory),
-    }
+    pushed_of(alloc, reader)
 }
 
 /// The note at the head of the watch lane.
@@ -80,9 +72,5 @@ pub fn note_at(
         → IfOk result (λ n. n ≡ m) }
 {
     read_head(post, lane, reader)?;
-    match decode_note(alloc, reader.text.as_slice()) {
-        Ok(message) => Ok(message),
-        Err(WireFault::Malformed) => unreachable!(),
-        Err(WireFault::NoMemory) => Err(NoMemory),
-    }
+    note_of(alloc, reader)
 }

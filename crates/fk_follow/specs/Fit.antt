@@ -12,7 +12,8 @@ use Rattle.fk_store.specs.Meaning as table
 use Rattle.fk_store.specs.declared.outcome.Outcome.{Outcome}
 use Rattle.fk_store.specs.declared.outcome.Outcome.TheVariants as kept
 use Rattle.fk_store.specs.declared.session_record.SessionRecord.{SessionRecord}
-use Rattle.fk_wire.specs.Limits.{IsLimitedRequest, IsNumber}
+use Rattle.fk_wire.specs.Limits.{IsLimitedRequest}
+use Rattle.fk_base.specs.Limits.{IsNumber}
 use Rattle.fk_follow.specs.Meaning.{Meaning, is_ended}
 
 -- the numbers of what was kept

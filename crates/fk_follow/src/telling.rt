@@ -9,7 +9,7 @@ ghost use Rattle.fk_queue.specs.Meaning.{has_lane};
 ghost use Rattle.fk_queue.specs.Posts.{post_of};
 ghost use Rattle.fk_queue.specs.declared.lane.Lane.TheVariants as lane;
 ghost use Rattle.fk_spec.specs.Follower.{ack_op};
-ghost use Rattle.fk_wire.specs.Limits.{IsNumber};
+ghost use Rattle.fk_base.specs.Limits.{IsNumber};
 ghost use Rattle.fk_follow.specs.Fit.{IsLimitedOutcome};
 ghost use Rattle.fk_follow.specs.Next.{GoesOn, GoesOnAfter};
 ghost use Rattle.fk_spec.specs.Failing.{or_fault};

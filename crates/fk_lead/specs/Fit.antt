@@ -5,7 +5,7 @@ use Rattle.fk_queue.specs.Meaning as post
 use Rattle.fk_queue.specs.declared.lane.Lane.TheVariants as lane
 use Rattle.fk_store.specs.Meaning as table
 use Rattle.fk_wire.specs.Fired.{AreLimitedFired}
-use Rattle.fk_wire.specs.Limits.{IsNumber}
+use Rattle.fk_base.specs.Limits.{IsNumber}
 use Rattle.fk_lead.specs.Meaning.{Meaning, is_ended}
 
 -- the numbers of a leader and of its push that it sends are within the limits of messages

@@ -11,7 +11,7 @@ ghost use Rattle.fk_queue.specs.Posts.{post_of};
 ghost use Rattle.fk_queue.specs.declared.lane.Lane.TheVariants as lane;
 ghost use Rattle.fk_spec.specs.Follower.{ack_op};
 ghost use Rattle.fk_wire.specs.Fired.{AreLimitedFired};
-ghost use Rattle.fk_wire.specs.Limits.{IsNumber};
+ghost use Rattle.fk_base.specs.Limits.{IsNumber};
 ghost use Rattle.fk_wire.specs.NoteText.{note_text};
 ghost use Rattle.fk_wire.specs.Readable.{IsNoteReadable, IsTellReadable};
 ghost use Rattle.fk_wire.specs.TellText.{tell_text};

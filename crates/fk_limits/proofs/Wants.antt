@@ -12,7 +12,8 @@ use Rattle.fk_tree.specs.declared.request.Part.TheVariants as part
 use Rattle.fk_tree.specs.declared.request.Query.TheVariants as query
 use Rattle.fk_tree.specs.declared.request.Request.{Request}
 use Rattle.fk_tree.specs.declared.request.Request.TheVariants as request
-use Rattle.fk_wire.specs.Limits.{IsExpected, IsLimitedPart, IsLimitedRequest, IsPath, IsTypedPart, IsTypedRequest}
+use Rattle.fk_wire.specs.Limits.{IsLimitedPart, IsLimitedRequest, IsTypedPart, IsTypedRequest}
+use Rattle.fk_base.specs.Limits.{IsExpected, IsPath}
 use Rattle.fk_script.specs.declared.command.Command.{Command}
 use Rattle.fk_script.specs.declared.command.Command.TheVariants as command
 use Rattle.fk_script.specs.declared.command.PartCommand.{PartCommand}

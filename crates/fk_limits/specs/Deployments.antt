@@ -1,7 +1,8 @@
 -- What a deployment that some bytes mean asks, against the limits of messages.
 use Rattle.std.specs.Prelude.{◌≡◌, ℕ, ◌≤◌, List, length, Some}
 use Rattle.fk_tree.specs.declared.request.Request.{Request}
-use Rattle.fk_wire.specs.Limits.{IsLimitedRequest, IsNumber}
+use Rattle.fk_wire.specs.Limits.{IsLimitedRequest}
+use Rattle.fk_base.specs.Limits.{IsNumber}
 use Rattle.fk_wire.specs.Readable.{IsSentReadable}
 use Rattle.fk_print.specs.declared.entry.Entry.{Entry}
 use Rattle.fk_script.specs.PrintLaws.{IsMeant}

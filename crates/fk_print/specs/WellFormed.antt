@@ -1,10 +1,10 @@
 -- Which histories are well formed for the names of clients.
-use Rattle.std.specs.Prelude.{◌≡◌, ℕ, ◌<◌, ◌≤◌, ◌^◌, pos, negsuc, Bool, true, false, ⊤, List, [], ◌∷◌, length}
+use Rattle.std.specs.Prelude.{◌≡◌, ℕ, ◌<◌, ◌≤◌, ◌^◌, Bool, true, false, ⊤, List, [], ◌∷◌, length}
 use lib.IntN.{ℤ}
 use Rattle.std.specs.List.{AllByRecursion}
 use Rattle.std.specs.Str.{is_utf8}
-use Rattle.base64.specs.GeneralPurpose.{IsBytes}
-use Rattle.fk_base.specs.Path.{Name, PathNames, are_names, is_name, path_text}
+use Rattle.fk_base.specs.Limits.{IsData, IsExpected, IsNumber, IsPath, IsSmall}
+use Rattle.fk_base.specs.Path.{Name, is_name}
 use Rattle.fk_base.specs.declared.code.Code.{Code}
 use Rattle.fk_base.specs.declared.code.Code.TheVariants as code
 use Rattle.fk_tree.specs.declared.node.Stat.{Stat}
@@ -27,34 +27,13 @@ use Rattle.fk_print.specs.declared.line.Verb.TheVariants as verb
 use Rattle.fk_print.specs.declared.op.Op.{Op}
 use Rattle.fk_print.specs.declared.op.Op.TheVariants as op
 
--- a number of a line
-abbrev pub IsNumber : ℕ → Type 0
-IsNumber n = n < 2 ^ 63
-
--- a number that has 32 bits
-abbrev pub IsSmall : ℕ → Type 0
-IsSmall n = n < 2 ^ 32
-
 -- a client's number is the place of a name
 abbrev pub IsClient : List Name → ℕ → Type 0
 IsClient names c = (1 ≤ c) × (c ≤ length names)
 
--- a path's text is UTF-8
-abbrev pub IsPath : PathNames → Type 0
-IsPath p = (are_names p ≡ true) × (is_utf8 (path_text p) ≡ true)
-
--- and so is a name that a listing shows
+-- a name that a listing shows is UTF-8
 abbrev pub IsShownName : Name → Type 0
 IsShownName n = (is_name n ≡ true) × (is_utf8 n ≡ true)
-
--- an expected version is -1 or more
-abbrev pub IsExpected : ℤ → Type 0
-IsExpected (pos v) = v < 2 ^ 31
-IsExpected (negsuc v) = v ≡ 0
-
--- data has bytes
-abbrev pub IsData : List ℕ → Type 0
-IsData = IsBytes
 
 -- an operation
 abbrev pub IsOp : List Name → Op → Type 0

@@ -10,7 +10,7 @@ use Rattle.base64.specs.GeneralPurpose.{IsBytes, encode_of}
 use Rattle.base64.specs.Rfc4648.{encode_symbols, padding_len}
 use Rattle.base64.proofs.EngineFacts.{decode_of-encode_of}
 use Rattle.fk_print.specs.Words.{Text, data_word, is_plain}
-use Rattle.fk_print.specs.WellFormed.{IsData}
+use Rattle.fk_base.specs.Limits.{IsData}
 use Rattle.fk_read.specs.Cut.{words_in}
 use Rattle.fk_read.specs.Reads.{take}
 use Rattle.fk_read.specs.ReadWords.{data_of}

@@ -3,7 +3,8 @@ use Rattle.std.proofs.Common.{◌≡◌, List, [], ◌∷◌, ◌++◌, length, 
 use Rattle.std.specs.List.{AllByRecursion, flat_map}
 use Rattle.std.proofs.lemmas.List.{append-nil}
 use Rattle.fk_base.specs.Path.{Name, PathNames, path_text}
-use Rattle.fk_print.specs.WellFormed.{IsPath, IsShownName}
+use Rattle.fk_print.specs.WellFormed.{IsShownName}
+use Rattle.fk_base.specs.Limits.{IsPath}
 use Rattle.fk_print.specs.Words.{Text}
 use Rattle.fk_read.specs.Cut.{words_in}
 use Rattle.fk_read.specs.Reads.{take}

@@ -5,7 +5,7 @@ use Rattle.std.specs.Prelude.{◌&&◌}
 use Rattle.std.specs.List.{list_all}
 use Rattle.std.proofs.lemmas.Bool.Decides.{nat_tests}
 use Rattle.fk_print.specs.Words.{is_plain}
-use Rattle.fk_print.specs.WellFormed.{IsData}
+use Rattle.fk_base.specs.Limits.{IsData}
 
 plain_byte : (b : ℕ) (rest : Bool) → (is_plain b && rest) ≡ true → (b < 256) × (rest ≡ true)
 plain_byte b rest e = (grind (arith, nat_tests), grind (arith, nat_tests))

@@ -13,7 +13,8 @@ use Rattle.fk_tree.specs.declared.node.Stat.{Stat}
 use Rattle.fk_tree.specs.declared.reply.PartReply.{PartReply}
 use Rattle.fk_tree.specs.declared.reply.PartReply.TheVariants as reply
 use Rattle.fk_print.specs.LineText.{part_reply_word, shown_words, stat_words}
-use Rattle.fk_print.specs.WellFormed.{IsNumber, IsPartReply, IsPlace, IsShown, IsSmall, IsStat, is_of_tree}
+use Rattle.fk_print.specs.WellFormed.{IsPartReply, IsPlace, IsShown, IsStat, is_of_tree}
+use Rattle.fk_base.specs.Limits.{IsNumber, IsSmall}
 use Rattle.fk_print.specs.Words.{Text, at, place_words}
 use Rattle.fk_print.specs.declared.line.Shown.{Shown}
 use Rattle.fk_print.specs.declared.line.Shown.TheVariants as shown

@@ -10,7 +10,8 @@ use Rattle.fk_base.specs.declared.code.Code.{Code}
 use Rattle.fk_print.specs.ClientNames.{are_client_names}
 use Rattle.fk_print.specs.Words.{Text, at, client, place_words}
 use Rattle.fk_print.specs.OpText.{word_text}
-use Rattle.fk_print.specs.WellFormed.{IsClient, IsNumber, IsPath, IsShownName, IsSmall}
+use Rattle.fk_print.specs.WellFormed.{IsClient, IsShownName}
+use Rattle.fk_base.specs.Limits.{IsNumber, IsPath, IsSmall}
 use Rattle.fk_print.specs.declared.op.Word.{Word}
 use Rattle.fk_read.proofs.WordsBack.{and_both, bare_at, bare_code, bare_decimal, bare_name, bare_path, is_bare}
 use Rattle.fk_read.proofs.ClientsBack.{bare_client}

@@ -8,7 +8,7 @@ use Rattle.std.specs.Str.{all_ascii_digits}
 use Rattle.std.proofs.lemmas.Bool.Decides.{nat_tests}
 use Rattle.fk_print.specs.Words.{Text, at, place_words}
 use Rattle.fk_print.specs.OpText.{word_text}
-use Rattle.fk_print.specs.WellFormed.{IsNumber, IsSmall}
+use Rattle.fk_base.specs.Limits.{IsNumber, IsSmall}
 use Rattle.fk_print.specs.declared.op.Word.{Word}
 use Rattle.fk_print.specs.declared.op.Word.TheVariants as word
 use Rattle.fk_read.specs.Cut.{words_in}

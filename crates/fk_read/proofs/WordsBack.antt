@@ -5,21 +5,19 @@ use Rattle.std.specs.List.{AllByRecursion, list_all}
 use Rattle.std.specs.Fmt.{decimal}
 use Rattle.std.specs.Char.{is_ascii_digit}
 use Rattle.std.specs.Str.{all_ascii_digits}
-use Rattle.std.specs.Str.Parse.{digits_value, without_leading_plus}
 use Rattle.std.proofs.lemmas.Bool.{false≢true}
 use Rattle.std.proofs.lemmas.Bool.Decides.{nat_tests}
-use Rattle.std.proofs.lemmas.Fmt.{digits_decimal, digits_value-decimal, decimal_nonempty}
-use Rattle.std.proofs.lemmas.Str.Parse.{IsNumeralModel, numerals_by_value, tells_all_ascii_digits}
 use Rattle.fk_base.specs.Path.{Name, PathNames, are_names, is_name, has_barred, is_dots, names_text, path_text}
 use Rattle.fk_base.specs.Code.{name_of}
 use Rattle.fk_base.specs.declared.code.Code.{Code}
 use Rattle.fk_base.specs.declared.code.Code.TheVariants as code
+use Rattle.fk_base.proofs.Numerals.{below_back, decimal_digits}
 use Rattle.fk_base.proofs.PathTexts.{text_reads_back}
 use Rattle.fk_print.specs.Words.{Text, at}
-use Rattle.fk_print.specs.WellFormed.{IsNumber, IsSmall, IsPath}
+use Rattle.fk_base.specs.Limits.{IsNumber, IsSmall, IsPath}
 use Rattle.fk_read.specs.Cut.{is_byte_at, words_in}
 use Rattle.fk_read.specs.Reads.{take}
-use Rattle.fk_read.specs.ReadWords.{at_of, code_of, digits_below, number_of, small_of, path_of_word}
+use Rattle.fk_read.specs.ReadWords.{at_of, code_of, number_of, small_of, path_of_word}
 use Rattle.fk_read.proofs.Cuts.{cut_none}
 
 -- every byte is beyond the space
@@ -56,9 +54,6 @@ take_back read w x rest bare e = rw (words_in_bare w bare, e) refl
 
 -- numbers
 
-own : IsNumeralModel (λ ds. all_ascii_digits ds ≡ true) (digits_value 10)
-own = numerals_by_value (λ ds. all_ascii_digits ds ≡ true) tells_all_ascii_digits
-
 digit_bare : (c : ℕ) (rest : Bool) → (is_ascii_digit c && rest) ≡ true → (nat_le 33 c ≡ true) × (rest ≡ true)
 digit_bare c rest h = (grind (arith, nat_tests), grind (arith, nat_tests))
 
@@ -66,24 +61,8 @@ digits_bare : (ds : Text) → all_ascii_digits ds ≡ true → is_bare ds ≡ tr
 digits_bare [] h = refl
 digits_bare (c ∷ ds) h = let s = digit_bare c (all_ascii_digits ds) h in rw (s.0, digits_bare ds s.1) refl
 
-digit_no_plus : (c : ℕ) (rest : Bool) → (is_ascii_digit c && rest) ≡ true → (c == 43) ≡ false
-digit_no_plus c rest h = grind (arith, nat_tests)
-
-digits_no_plus : (ds : Text) → all_ascii_digits ds ≡ true → without_leading_plus ds ≡ ds
-digits_no_plus [] h = refl
-digits_no_plus (c ∷ ds) h = rw (digit_no_plus c (all_ascii_digits ds) h) refl
-
-pub decimal_digits : (n : ℕ) → n < 2 ^ 64 → all_ascii_digits (decimal n) ≡ true
-decimal_digits n l = digits_decimal own n l
-
 pub bare_decimal : (n : ℕ) → n < 2 ^ 64 → is_bare (decimal n) ≡ true
 bare_decimal n l = digits_bare (decimal n) (decimal_digits n l)
-
-pub below_back : (limit n : ℕ) → n < limit → n < 2 ^ 64 → digits_below limit (without_leading_plus (decimal n)) ≡ Some n
-below_back limit n low l =
-    let long : nat_lt 0 (length (decimal n)) ≡ true = grind (arith, nat_tests, decimal_nonempty n l) in
-    let test : nat_lt n limit ≡ true = grind (arith, nat_tests) in
-    rw (digits_no_plus (decimal n) (decimal_digits n l), decimal_digits n l, long, digits_value-decimal own n l, test) refl
 
 pub number_back : (n : ℕ) → IsNumber n → number_of (decimal n) ≡ Some n
 unfolding number_of

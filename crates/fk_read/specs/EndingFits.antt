@@ -1,6 +1,6 @@
 -- What an ending that was read has.
 use Rattle.std.specs.Prelude.{⊤}
-use Rattle.fk_print.specs.WellFormed.{IsNumber, IsPath}
+use Rattle.fk_base.specs.Limits.{IsNumber, IsPath}
 use Rattle.fk_read.specs.declared.ending.Ending.{Ending}
 use Rattle.fk_read.specs.declared.ending.Ending.TheVariants as ending
 

@@ -1,38 +1,29 @@
 -- What a word says.
-use Rattle.std.specs.Prelude.{ℕ, ◌==◌, ◌+◌, ◌^◌, nat_lt, pos, negsuc, if◌then◌else◌, ◌&&◌, List, [], ◌∷◌, codes, length, Option, Some, None}
-use lib.IntN.{ℤ}
+use Rattle.std.specs.Prelude.{ℕ, ◌==◌, ◌+◌, ◌^◌, nat_lt, if◌then◌else◌, ◌&&◌, List, [], ◌∷◌, codes, Option, Some, None}
 use Rattle.std.specs.Option.{option_and_then, option_map}
 use Rattle.std.specs.Result.{result_ok}
 use Rattle.std.specs.List.{list_all}
-use Rattle.std.specs.Str.{all_ascii_digits, bytes_eq, is_utf8}
-use Rattle.std.specs.Str.Parse.{digits_value, without_leading_plus}
+use Rattle.std.specs.Str.{bytes_eq, is_utf8}
 use Rattle.base64.specs.Engines.{standard}
 use Rattle.base64.specs.GeneralPurpose.{decode_of}
+use Rattle.fk_base.specs.Digits.{number_below}
 use Rattle.fk_base.specs.Path.{Name, PathNames, is_name, path_of}
 use Rattle.fk_base.specs.declared.code.Code.{Code}
 use Rattle.fk_base.specs.declared.code.Code.TheVariants as code
 use Rattle.fk_print.specs.Words.{Text, is_plain}
 
--- a number below a limit; a `+` before it is passed over
-abbrev pub digits_below : ℕ → Text → Option ℕ
-digits_below limit digits = if all_ascii_digits digits && nat_lt 0 (length digits) && nat_lt (digits_value 10 digits) limit then Some (digits_value 10 digits) else None
-
 -- a number
 unfoldable pub number_of : Text → Option ℕ
-number_of word = digits_below (2 ^ 63) (without_leading_plus word)
+number_of word = number_below (2 ^ 63) word
 
 -- a number of 32 bits
 unfoldable pub small_of : Text → Option ℕ
-small_of word = digits_below (2 ^ 32) (without_leading_plus word)
+small_of word = number_below (2 ^ 32) word
 
 -- a number behind `@`
 unfoldable pub at_of : Text → Option ℕ
 at_of [] = None
 at_of (c ∷ word) = if c == 64 then number_of word else None
-
--- an expected version
-unfoldable pub expected_of : Text → Option ℤ
-expected_of word = if bytes_eq word (codes "-1") then Some (negsuc 0) else option_map pos (digits_below (2 ^ 31) (without_leading_plus word))
 
 -- a client: the place of its name, where the first has this place
 abbrev pub place_from : ℕ → List Name → Text → Option ℕ

@@ -1,6 +1,7 @@
 ghost use Rattle.std.specs.Prelude.{◌≡◌, [], IfOk, length};
 ghost use Rattle.std.specs.List.{AllByRecursion};
-ghost use Rattle.fk_print.specs.WellFormed.{IsAct, IsNumber, IsPart, IsPath};
+ghost use Rattle.fk_print.specs.WellFormed.{IsAct, IsPart};
+ghost use Rattle.fk_base.specs.Limits.{IsNumber, IsPath};
 ghost use Rattle.fk_read.specs.ReadAct.{act_of, create_act, multi_act, set_act, take_onto, take_part};
 ghost use Rattle.fk_read.specs.ReadWords.{path_of_word};
 ghost use Rattle.fk_read.specs.Reads.{Reads, Takes, take};

@@ -1,6 +1,6 @@
 ghost use Rattle.std.specs.Prelude.{◌≡◌, IfOk};
 ghost use Rattle.std.specs.List.{list_all};
-ghost use Rattle.fk_print.specs.WellFormed.{IsData};
+ghost use Rattle.fk_base.specs.Limits.{IsData};
 ghost use Rattle.fk_print.specs.Words.{is_plain};
 ghost use Rattle.fk_read.specs.ReadWords.{base64_of, data_of};
 ghost use Rattle.fk_read.specs.Reads.{Reads};

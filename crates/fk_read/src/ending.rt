@@ -1,5 +1,5 @@
 ghost use Rattle.std.specs.Prelude.{IfOk, ◌≡◌};
-ghost use Rattle.fk_print.specs.WellFormed.{IsNumber, IsSmall};
+ghost use Rattle.fk_base.specs.Limits.{IsNumber, IsSmall};
 ghost use Rattle.fk_read.specs.EndingFits.{IsEnding};
 ghost use Rattle.fk_read.specs.ReadEnding.{ending_of, miss_of, spot_by, take_spot};
 ghost use Rattle.fk_read.specs.Reads.{Reads, Takes};

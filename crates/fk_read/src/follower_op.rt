@@ -1,6 +1,7 @@
 ghost use Rattle.std.specs.Prelude.{List, IfOk};
 ghost use Rattle.fk_base.specs.Path.{Name};
-ghost use Rattle.fk_print.specs.WellFormed.{IsNumber, IsOp};
+ghost use Rattle.fk_print.specs.WellFormed.{IsOp};
+ghost use Rattle.fk_base.specs.Limits.{IsNumber};
 ghost use Rattle.fk_read.specs.ReadEnding.{ending_of};
 ghost use Rattle.fk_read.specs.ReadOp.{ack_op, commit_op, lock_op, lost_by, refuse_op, session_of};
 ghost use Rattle.fk_read.specs.Reads.{Reads};

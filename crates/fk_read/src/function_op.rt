@@ -1,6 +1,7 @@
 ghost use Rattle.std.specs.Prelude.{◌≡◌, List, IfOk, IfSome, ℕ};
 ghost use Rattle.fk_base.specs.Path.{Name};
-ghost use Rattle.fk_print.specs.WellFormed.{IsNumber, IsOp};
+ghost use Rattle.fk_print.specs.WellFormed.{IsOp};
+ghost use Rattle.fk_base.specs.Limits.{IsNumber};
 ghost use Rattle.fk_read.specs.ReadOp.{function_op, named_op, word_of};
 ghost use Rattle.fk_read.specs.Reads.{Reads, Takes, take};
 

@@ -1,6 +1,7 @@
 ghost use Rattle.std.specs.Prelude.{List, IfOk};
 ghost use Rattle.fk_base.specs.Path.{Name};
-ghost use Rattle.fk_print.specs.WellFormed.{IsNumber, IsOp};
+ghost use Rattle.fk_print.specs.WellFormed.{IsOp};
+ghost use Rattle.fk_base.specs.Limits.{IsNumber};
 ghost use Rattle.fk_read.specs.ReadOp.{done_op, drop_op, pending_op, publish_op, put_op, sweep_op};
 ghost use Rattle.fk_read.specs.Reads.{Reads};
 

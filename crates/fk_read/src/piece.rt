@@ -1,13 +1,16 @@
 ghost use Rattle.std.specs.Prelude.{◌≡◌, ◌<◌, ◌≤◌, ◌^◌, IfOk, IfSome};
-ghost use Rattle.std.specs.Str.Parse.{without_leading_plus};
-ghost use Rattle.fk_print.specs.WellFormed.{IsClient, IsData, IsExpected, IsNumber, IsPath, IsShownName, IsSmall};
-ghost use Rattle.fk_read.specs.ReadWords.{at_of, client_of, code_of, data_of, digits_below, expected_of, name_of_word, number_of, path_of_word, place_from, small_of};
+ghost use Rattle.fk_print.specs.WellFormed.{IsClient, IsShownName};
+ghost use Rattle.fk_base.specs.Digits.{expected_of, number_below};
+ghost use Rattle.fk_base.specs.Limits.{IsData, IsExpected, IsNumber, IsPath, IsSmall};
+ghost use Rattle.fk_read.specs.ReadWords.{at_of, client_of, code_of, data_of, name_of_word, number_of, path_of_word, place_from, small_of};
 ghost use Rattle.fk_read.specs.Reads.{Reads, Takes, TakesWord, take};
 
 use crate::data::read_data;
 use crate::unread::Unread;
 use crate::words::{Cut, is};
-use fk_base::{Bytes, Code, Names, NoMemory, Path, PathFault, Text, is_name};
+use fk_base::{
+    Bytes, Code, Names, NoMemory, Path, PathFault, Text, expected_of, is_name, number_below,
+};
 use std::alloc::Global;
 
 /// The first word, as what it says.
@@ -133,16 +136,13 @@ impl<'a> Cut<'a> {
 }
 
 /// The number that a word says, below a limit.
-#[tactic(auto, using(crate::proofs::Numbers::no_text, crate::proofs::Numbers::number_is))]
-fn number_below(word: &[u8], limit: u64) -> Option<u64>
-    ensures reads { result ≡ digits_below limit (without_leading_plus word.now) }
+#[tactic(auto, using(fk_base::proofs::Numerals::no_text))]
+fn below(word: &[u8], limit: u64) -> Option<u64>
+    ensures reads { result ≡ number_below limit word.now }
     ensures fits { IfSome result (λ n. n < limit) }
 {
-    let Ok(text) = str::from_utf8(word) else {
-        return None;
-    };
-    match text.parse::<u64>() {
-        Ok(number) => { if number < limit { Some(number) } else { None } }
+    match str::from_utf8(word) {
+        Ok(text) => number_below(text, limit),
         Err(_) => None,
     }
 }
@@ -152,7 +152,7 @@ pub(crate) fn number(word: &[u8]) -> Option<u64>
     ensures reads { result ≡ number_of word.now }
     ensures fits { IfSome result IsNumber }
 {
-    number_below(word, 1 << 63)
+    below(word, 1 << 63)
 }
 
 #[tactic(auto, unfolding(crate::specs::ReadWords::small_of))]
@@ -160,7 +160,7 @@ pub(crate) fn small(word: &[u8]) -> Option<u32>
     ensures reads { result ≡ small_of word.now }
     ensures fits { IfSome result IsSmall }
 {
-    match number_below(word, 1 << 32) {
+    match below(word, 1 << 32) {
         Some(number) => Some(number as u32),
         None => None,
     }
@@ -177,17 +177,15 @@ pub(crate) fn at(word: &[u8]) -> Option<u64>
     }
 }
 
-#[tactic(auto, unfolding(crate::specs::ReadWords::expected_of))]
+/// The expected version that a word says.
+#[tactic(auto, using(fk_base::proofs::Numerals::no_version))]
 fn expected(word: &[u8]) -> Option<i32>
     ensures reads { result ≡ expected_of word.now }
     ensures fits { IfSome result IsExpected }
 {
-    if is(word, "-1") {
-        return Some(-1);
-    }
-    match number_below(word, 1 << 31) {
-        Some(number) => Some(number as i32),
-        None => None,
+    match str::from_utf8(word) {
+        Ok(text) => expected_of(text),
+        Err(_) => None,
     }
 }
 

@@ -1,6 +1,7 @@
 ghost use Rattle.std.specs.Prelude.{◌≡◌, [], IfOk, length, ℕ};
 ghost use Rattle.std.specs.List.{AllByRecursion};
-ghost use Rattle.fk_print.specs.WellFormed.{IsNumber, IsPartReply, IsShown, IsShownName, IsSmall, IsStat, is_of_tree};
+ghost use Rattle.fk_print.specs.WellFormed.{IsPartReply, IsShown, IsShownName, IsStat, is_of_tree};
+ghost use Rattle.fk_base.specs.Limits.{IsNumber, IsSmall};
 ghost use Rattle.fk_read.specs.ReadAct.{take_onto};
 ghost use Rattle.fk_read.specs.ReadReply.{coded, err_of, has_places, ok_by, refused_by, shown_of, stat_of, take_reply};
 ghost use Rattle.fk_read.specs.ReadWords.{name_of_word};

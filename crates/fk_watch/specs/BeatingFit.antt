@@ -4,7 +4,7 @@ use Rattle.fk_queue.specs.Lanes.{is_session}
 use Rattle.fk_queue.specs.Meaning as post
 use Rattle.fk_queue.specs.declared.lane.Lane.TheVariants as lane
 use Rattle.fk_store.specs.Meaning as table
-use Rattle.fk_wire.specs.Limits.{IsNumber}
+use Rattle.fk_base.specs.Limits.{IsNumber}
 use Rattle.fk_wire.specs.SentText.{IsSent}
 use Rattle.fk_wire.specs.TellText.{IsTell}
 use Rattle.fk_wire.specs.declared.message.Tell.TheVariants as tell

@@ -3,7 +3,7 @@ use Rattle.std.specs.Prelude.{◌≡◌, ◌<◌, ◌-◌, ◌^◌, true, false,
 use Rattle.fk_queue.specs.Lanes.{is_session}
 use Rattle.fk_queue.specs.Meaning as post
 use Rattle.fk_queue.specs.declared.lane.Lane.TheVariants as lane
-use Rattle.fk_wire.specs.Limits.{IsNumber}
+use Rattle.fk_base.specs.Limits.{IsNumber}
 use Rattle.fk_wire.specs.TellText.{IsTell}
 use Rattle.fk_spec.specs.Teller.{Stage}
 use Rattle.fk_spec.specs.Teller as stage

@@ -12,7 +12,7 @@ ghost use Rattle.fk_spec.specs.Heartbeat as stage;
 ghost use Rattle.fk_store.specs.Conds.{session_of};
 ghost use Rattle.fk_store.specs.Meaning.{called};
 ghost use Rattle.fk_store.specs.declared.answer.Transact.TheVariants as transact;
-ghost use Rattle.fk_wire.specs.Limits.{IsNumber};
+ghost use Rattle.fk_base.specs.Limits.{IsNumber};
 ghost use Rattle.fk_wire.specs.SentText.{IsSent, sent_text};
 ghost use Rattle.fk_wire.specs.TellText.{IsTell, tell_text};
 ghost use Rattle.fk_wire.specs.declared.message.Tell.TheVariants as tell;

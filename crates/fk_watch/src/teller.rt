@@ -11,7 +11,7 @@ ghost use Rattle.fk_queue.specs.declared.lane.Lane.TheVariants as lane;
 ghost use Rattle.fk_spec.specs.Failing.{or_fault};
 ghost use Rattle.fk_spec.specs.Follower.{ack_op};
 ghost use Rattle.fk_spec.specs.Teller as stage;
-ghost use Rattle.fk_wire.specs.Limits.{IsNumber};
+ghost use Rattle.fk_base.specs.Limits.{IsNumber};
 ghost use Rattle.fk_wire.specs.TellText.{IsTell, tell_text};
 ghost use Rattle.fk_wire.specs.declared.message.Tell.TheVariants as tell;
 ghost use Rattle.fk_wire.specs.declared.version.Version.TheVariants as version;

@@ -2,6 +2,7 @@
 use Rattle.std.proofs.Common.{◌≡◌, ℕ, ◌^◌, suc, List, [], ◌∷◌, map, Some, refl, IsUtf8}
 use Rattle.json.proofs.Printed.Utf8.{IsUtf8-are_ascii as utf8_key}
 use Rattle.serde_json.specs.View.{items_of}
+use Rattle.serde_json.specs.Written.{items_outline, outline}
 use Rattle.fk_tree.specs.declared.change.Change.{Change}
 use Rattle.fk_tree.specs.declared.change.Change.TheVariants as change
 use Rattle.fk_tree.specs.declared.change.Kind.{Kind}
@@ -12,7 +13,7 @@ use Rattle.fk_wire.specs.Fired.{AreLimitedFired, AreTypedFired, IsLimitedFired, 
 use Rattle.fk_wire.specs.Json.{items_onto}
 use Rattle.fk_wire.proofs.Fit.{IsFit}
 use Rattle.fk_wire.proofs.MadesBack.{small_fit}
-use Rattle.fk_wire.proofs.Values.{below_back, items_back, items_fit, number_fit, path_back, path_fit}
+use Rattle.fk_wire.proofs.Values.{items_back, items_fit, number_back, number_fit, path_back, path_fit, small_back}
 
 -- a watch that can be written
 abbrev pub IsFired : Fired → Type 0
@@ -44,8 +45,6 @@ change_back change.Child = refl
 
 pub fired_fit : (n : ℕ) (f : Fired) → IsFired f → IsFit (suc n) (fired_data f)
 fired_fit n f h = (
-  refl,
-  (
     utf8_key _ refl,
     small_fit f.session h.1.0,
     (
@@ -57,15 +56,14 @@ fired_fit n f h = (
         (utf8_key _ refl, path_fit n f.path h.1.1, (utf8_key _ refl, change_fit f.change, tt)),
       ),
     ),
-  ),
-)
+  )
 
-pub fired_back : (f : Fired) → IsFired f → fired_from (fired_data f) ≡ Some f
+pub fired_back : (f : Fired) → IsFired f → fired_from (outline (fired_data f)) ≡ Some f
 fired_back f h =
-    rw (below_back (2 ^ 32) f.session h.1.0, below_back (2 ^ 63) f.id h.0, kind_back f.kind, path_back f.path h.1.1, change_back f.change) refl
+    rw (small_back f.session h.1.0, number_back f.id h.0, kind_back f.kind, path_back f.path h.1.1, change_back f.change) refl
 
 pub fired_list_fit : (n : ℕ) (fs : List Fired) → AreLimitedFired fs → AreTypedFired fs → IsFit (suc (suc n)) (fired_list_data fs)
 fired_list_fit n fs h k = items_fit (suc n) fired_data IsFired (fired_fit n) fs (each fs h k)
 
-pub fired_list_back : (fs : List Fired) → AreLimitedFired fs → AreTypedFired fs → items_onto fired_from [] (items_of (map fired_data fs)) ≡ Some fs
+pub fired_list_back : (fs : List Fired) → AreLimitedFired fs → AreTypedFired fs → items_onto fired_from [] (items_outline (items_of (map fired_data fs))) ≡ Some fs
 fired_list_back fs h k = items_back fired_from fired_data IsFired fired_back fs [] (each fs h k)

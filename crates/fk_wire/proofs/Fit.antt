@@ -1,23 +1,22 @@
 -- Data of which the text is UTF-8 and reads back.
-use Rattle.std.proofs.Common.{◌≡◌, ℕ, zero, suc, ◌≤◌, ◌<◌, ◌^◌, pos, negsuc, List, [], ◌∷◌, Some, Bool, true, false, option_and_then, option_map, refl, sym, ap, ◌∙◌, arith, IsUtf8, append-nil}
+use Rattle.std.proofs.Common.{◌≡◌, ℕ, zero, suc, ◌≤◌, ◌<◌, ◌^◌, pos, negsuc, List, [], ◌∷◌, Some, Bool, true, false, option_and_then, refl, sym, ap, ◌∙◌, arith, IsUtf8, append-nil}
 use Rattle.std.specs.Prelude.{⊤}
 use Rattle.std.proofs.lemmas.Str.{IsUtf8-append, IsUtf8-from_ascii, IsUtf8-nil}
 use Rattle.std.proofs.lemmas.Fmt.{IsAscii-decimal}
 use Rattle.json.specs.Token.{Token}
 use Rattle.json.specs.Lex.{tokens}
 use Rattle.json.specs.Json as json
+use Rattle.json.specs.Json.{document, max_depth}
 use Rattle.json.specs.Print.{quoted, IsNumber}
 use Rattle.json.specs.Tree as tree
 use Rattle.json.proofs.Printed.Trees.{value-json_tokens, ArePrintable-json_tokens}
 use Rattle.json.proofs.Printed.Tokens.{tokens-print}
 use Rattle.json.proofs.Printed.Utf8.{IsUtf8-are_ascii, IsUtf8-quoted}
 use Rattle.json.proofs.Printed.Decimals.{IsNumber-decimal, IsNumber-signed_decimal}
-use Rattle.serde_json.specs.Data.{Data, Num, unsigned, negative, float, null, boolean, number, string, array, object, Items, no_items, item, Members, no_members, member, put}
-use Rattle.serde_json.specs.Read.{read, of_json, of_items, of_members, max_depth, number_of}
+use Rattle.serde_json.specs.Data.{Data, Num, unsigned, negative, float, null, boolean, number, string, array, object, Items, no_items, item, Members, no_members, member}
 use Rattle.serde_json.specs.Written.{compact_text, items_text, members_text, comma_if, number_text, outline, items_outline, members_outline, has_float, items_have_float, members_have_float}
 use Rattle.serde_json.specs.Find.{is_float}
 use Rattle.serde_json.proofs.Texts.{print-outline}
-use Rattle.serde_json.proofs.Numbers.{number_of-decimal, number_of-negative}
 
 -- an integer of 64 bits
 abbrev pub IsFitNumber : Num → Type 0
@@ -26,13 +25,7 @@ IsFitNumber (negative (pos n)) = ⊥
 IsFitNumber (negative (negsuc n)) = n < 2 ^ 63
 IsFitNumber (float x) = ⊥
 
--- the members, put one after another into others
-abbrev pub put_all : Members → Members → Members
-put_all no_members found = found
-put_all (member k d ms) found = put_all ms (put k d found)
-
--- Arrays and objects nest at most so deep, numbers are integers of 64 bits, strings are UTF-8 and
--- an object's keys stand in their order, each once.
+-- Arrays and objects nest at most so deep, numbers are integers of 64 bits, keys and strings are UTF-8.
 abbrev mutual
   pub IsFit : ℕ → Data → Type 0
   IsFit n null = ⊤
@@ -42,7 +35,7 @@ abbrev mutual
   IsFit zero (array ds) = ⊥
   IsFit (suc n) (array ds) = AreFitItems n ds
   IsFit zero (object ms) = ⊥
-  IsFit (suc n) (object ms) = (put_all ms no_members ≡ ms) × AreFitMembers n ms
+  IsFit (suc n) (object ms) = AreFitMembers n ms
 
   pub AreFitItems : ℕ → Items → Type 0
   AreFitItems n no_items = ⊤
@@ -54,38 +47,11 @@ abbrev mutual
 
 -- ---- the numbers
 
-number_back : (x : Num) → IsFitNumber x → number_of (number_text x) ≡ Some x
-number_back (unsigned n) h = number_of-decimal n h
-number_back (negative (pos n)) h = absurd h
-number_back (negative (negsuc n)) h = number_of-negative n h
-number_back (float x) h = absurd h
-
 number_is : (x : Num) → IsFitNumber x → IsNumber (number_text x)
 number_is (unsigned n) h = IsNumber-decimal n h
 number_is (negative (pos n)) h = absurd h
 number_is (negative (negsuc n)) h = IsNumber-signed_decimal (negsuc n) h
 number_is (float x) h = absurd h
-
--- ---- the value of the outline
-
-mutual
-  json_back : (n : ℕ) (d : Data) → IsFit n d → of_json (outline d) ≡ Some d
-  json_back n null h = refl
-  json_back n (boolean b) h = refl
-  json_back n (number x) h = ap (option_map number) (number_back x h)
-  json_back n (string s) h = refl
-  json_back zero (array ds) h = absurd h
-  json_back (suc n) (array ds) h = ap (option_map array) (items_back n ds h)
-  json_back zero (object ms) h = absurd h
-  json_back (suc n) (object ms) h = ap (option_map object) (members_back n ms no_members h.1 ∙ ap Some h.0)
-
-  items_back : (n : ℕ) (ds : Items) → AreFitItems n ds → of_items (items_outline ds) ≡ Some ds
-  items_back n no_items h = refl
-  items_back n (item d ds) h = ap (option_and_then (λ x. option_map (item x) (of_items (items_outline ds)))) (json_back n d h.0) ∙ ap (option_map (item d)) (items_back n ds h.1)
-
-  members_back : (n : ℕ) (ms found : Members) → AreFitMembers n ms → of_members (members_outline ms) found ≡ Some (put_all ms found)
-  members_back n no_members found h = refl
-  members_back n (member k d ms) found h = ap (option_and_then (λ x. of_members (members_outline ms) (put k x found))) (json_back n d h.1) ∙ members_back n ms (put k d found) h.2
 
 mutual
   numbers_are : (n : ℕ) (d : Data) → IsFit n d → tree.HasNumbers (outline d)
@@ -96,7 +62,7 @@ mutual
   numbers_are zero (array ds) h = absurd h
   numbers_are (suc n) (array ds) h = item_numbers n ds h
   numbers_are zero (object ms) h = absurd h
-  numbers_are (suc n) (object ms) h = member_numbers n ms h.1
+  numbers_are (suc n) (object ms) h = member_numbers n ms h
 
   item_numbers : (n : ℕ) (ds : Items) → AreFitItems n ds → tree.ItemsHaveNumbers (items_outline ds)
   item_numbers n no_items h = tt
@@ -115,7 +81,7 @@ mutual
   is_shallow zero (array ds) h = absurd h
   is_shallow (suc n) (array ds) h = omega (arith, items_shallow n ds h)
   is_shallow zero (object ms) h = absurd h
-  is_shallow (suc n) (object ms) h = omega (arith, members_shallow n ms h.1)
+  is_shallow (suc n) (object ms) h = omega (arith, members_shallow n ms h)
 
   items_shallow : (n : ℕ) (ds : Items) → AreFitItems n ds → tree.items_depth (items_outline ds) ≤ n
   items_shallow n no_items h = omega arith
@@ -125,15 +91,14 @@ mutual
   members_shallow n no_members h = omega arith
   members_shallow n (member k d ms) h = omega (arith, is_shallow n d h.1, members_shallow n ms h.2)
 
--- the text of a value reads back as it
-pub read_compact : (n : ℕ) (d : Data) → n ≤ 127 → IsFit n d → read (compact_text d) ≡ Some d
-read_compact n d deep h =
+-- the text of a value is JSON of its outline
+pub document_compact : (n : ℕ) (d : Data) → n ≤ 127 → IsFit n d → document (compact_text d) ≡ Some (outline d)
+document_compact n d deep h =
     let ts : List Token = tree.json_tokens (outline d) in
     let lexed : tokens (compact_text d) ≡ ts = ap tokens (sym (print-outline d)) ∙ tokens-print ts (ArePrintable-json_tokens (outline d) (numbers_are n d h)) in
     let shallow : tree.depth (outline d) ≤ max_depth = omega (arith, is_shallow n d h) in
-    ap (λ us. option_and_then of_json (option_and_then (λ p. json.if_last p.0 p.1) (json.value max_depth us))) (lexed ∙ sym (append-nil ts))
-    ∙ ap (λ r. option_and_then of_json (option_and_then (λ p. json.if_last p.0 p.1) r)) (value-json_tokens (outline d) max_depth [] shallow)
-    ∙ json_back n d h
+    ap (λ us. option_and_then (λ p. json.if_last p.0 p.1) (json.value max_depth us)) (lexed ∙ sym (append-nil ts))
+    ∙ ap (option_and_then (λ p. json.if_last p.0 p.1)) (value-json_tokens (outline d) max_depth [] shallow)
 
 -- ---- its text is UTF-8
 
@@ -160,7 +125,7 @@ mutual
   utf8_compact zero (array ds) h = absurd h
   utf8_compact (suc n) (array ds) h = ascii_then 91 _ (IsUtf8-are_ascii (91 ∷ []) refl) (utf8_items n false ds h)
   utf8_compact zero (object ms) h = absurd h
-  utf8_compact (suc n) (object ms) h = ascii_then 123 _ (IsUtf8-are_ascii (123 ∷ []) refl) (utf8_members n false ms h.1)
+  utf8_compact (suc n) (object ms) h = ascii_then 123 _ (IsUtf8-are_ascii (123 ∷ []) refl) (utf8_members n false ms h)
 
   utf8_items : (n : ℕ) (later : Bool) (ds : Items) → AreFitItems n ds → IsUtf8 (items_text later ds)
   utf8_items n later no_items h = IsUtf8-are_ascii (93 ∷ []) refl
@@ -189,7 +154,7 @@ mutual
   no_float zero (array ds) h = absurd h
   no_float (suc n) (array ds) h = no_item_float n ds h
   no_float zero (object ms) h = absurd h
-  no_float (suc n) (object ms) h = no_member_float n ms h.1
+  no_float (suc n) (object ms) h = no_member_float n ms h
 
   no_item_float : (n : ℕ) (ds : Items) → AreFitItems n ds → items_have_float ds ≡ false
   no_item_float n no_items h = refl

@@ -2,6 +2,7 @@
 use Rattle.std.specs.Prelude.{ℕ, ◌^◌, if◌then◌else◌, List, codes, Option, Some, None, option_and_then, option_map}
 use Rattle.std.specs.List.{AllByRecursion}
 use Rattle.std.specs.Str.{bytes_eq}
+use Rattle.json.specs.Json.{Json}
 use Rattle.serde_json.specs.Data.{Data, object, member, no_members, string}
 use Rattle.fk_tree.specs.declared.change.Change.{Change}
 use Rattle.fk_tree.specs.declared.change.Change.TheVariants as change
@@ -9,7 +10,7 @@ use Rattle.fk_tree.specs.declared.change.Kind.{Kind}
 use Rattle.fk_tree.specs.declared.change.Kind.TheVariants as kind
 use Rattle.fk_wire.specs.declared.fired.Fired.{Fired}
 use Rattle.fk_wire.specs.Json.{list_at, list_data, number_at, number_data, path_at, path_data, text_at}
-use Rattle.fk_wire.specs.Limits.{IsNumber, IsPath, IsSmall}
+use Rattle.fk_base.specs.Limits.{IsNumber, IsPath, IsSmall}
 
 -- the word for what a watch waits for
 abbrev pub kind_word : Kind → List ℕ
@@ -69,15 +70,15 @@ change_of word =
     else None
 
 -- what a watch waits for, at a key
-abbrev pub kind_at : List ℕ → Data → Option Kind
+abbrev pub kind_at : List ℕ → Json → Option Kind
 kind_at key d = option_and_then kind_of (text_at key d)
 
 -- what happened, at a key
-abbrev pub change_at : List ℕ → Data → Option Change
+abbrev pub change_at : List ℕ → Json → Option Change
 change_at key d = option_and_then change_of (text_at key d)
 
 -- the watch of which a value has the fields
-abbrev pub fired_from : Data → Option Fired
+abbrev pub fired_from : Json → Option Fired
 fired_from d =
     option_and_then (λ session. option_and_then (λ id. option_and_then (λ kind. option_and_then (λ path.
     option_map (λ change. record { id = id; session = session; path = path; kind = kind; change = change })
@@ -85,5 +86,5 @@ fired_from d =
     (number_at (2 ^ 63) (codes "id") d)) (number_at (2 ^ 32) (codes "client") d)
 
 -- the watches at a key
-abbrev pub fired_list_at : List ℕ → Data → Option (List Fired)
+abbrev pub fired_list_at : List ℕ → Json → Option (List Fired)
 fired_list_at = list_at fired_from

@@ -1,12 +1,13 @@
 -- The text of a note.
 use Rattle.std.specs.Prelude.{◌≡◌, ℕ, ◌^◌, ⊤, List, codes, Option, option_and_then, option_map}
+use Rattle.json.specs.Json.{Json}
 use Rattle.serde_json.specs.Data.{Data, object, member, no_members}
 use Rattle.serde_json.specs.Written.{compact_text}
 use Rattle.fk_wire.specs.declared.message.Note.{Note}
 use Rattle.fk_wire.specs.declared.version.Version.{Version}
 use Rattle.fk_wire.specs.Fired.{AreLimitedFired, AreTypedFired, fired_list_at, fired_list_data}
 use Rattle.fk_wire.specs.Json.{IsTextOf, number_at, number_data, version_data}
-use Rattle.fk_wire.specs.Limits.{IsNumber}
+use Rattle.fk_base.specs.Limits.{IsNumber}
 
 -- the value in this version
 abbrev pub note_data : Version → Note → Data
@@ -40,7 +41,7 @@ abbrev pub IsNoteText : List ℕ → Note → Type 0
 IsNoteText = IsTextOf IsNote CanSayNote note_data
 
 -- the note of which a value has the fields
-abbrev pub note_from : Version → Data → Option Note
+abbrev pub note_from : Version → Json → Option Note
 note_from v d =
     option_and_then (λ tx. option_map (λ fired. record { tx = tx; fired = fired })
     (fired_list_at (codes "fired") d)) (number_at (2 ^ 63) (codes "tx") d)

@@ -1,8 +1,9 @@
 -- The value of a request in a message.
 use Rattle.std.specs.Prelude.{ℕ, ◌&&◌, nat_lt, if◌then◌else◌, ℤ, Bool, false, ⊤, List, codes, length, Option, Some, None, option_and_then, option_map}
 use Rattle.std.specs.Str.{bytes_eq}
+use Rattle.json.specs.Find.{get}
+use Rattle.json.specs.Json.{Json}
 use Rattle.serde_json.specs.Data.{Data, boolean, member, no_members, object, string}
-use Rattle.serde_json.specs.Find.{get}
 use Rattle.fk_base.specs.Path.{PathNames}
 use Rattle.fk_tree.specs.declared.request.Part.{Part}
 use Rattle.fk_tree.specs.declared.request.Part.TheVariants as part
@@ -50,23 +51,23 @@ CanSayRequest version.One (request.Multi parts) = ⊥
 -- ---- reading
 
 -- the create of which a value has the fields
-abbrev pub create_from : Data → Option Part
+abbrev pub create_from : Json → Option Part
 create_from d = option_and_then (λ path. option_and_then (λ bytes. option_map (λ eph. part.Create path bytes eph) (flag_at (codes "e") d)) (bytes_at (codes "data") d)) (path_at (codes "path") d)
 
 -- the set of which a value has the fields
-abbrev pub set_from : Data → Option Part
+abbrev pub set_from : Json → Option Part
 set_from d = option_and_then (λ path. option_and_then (λ bytes. option_map (λ v. part.Set path bytes v) (expected_at (codes "version") d)) (bytes_at (codes "data") d)) (path_at (codes "path") d)
 
 -- the delete of which a value has the fields
-abbrev pub delete_from : Data → Option Part
+abbrev pub delete_from : Json → Option Part
 delete_from d = option_and_then (λ path. option_map (λ v. part.Delete path v) (expected_at (codes "version") d)) (path_at (codes "path") d)
 
 -- the part of this kind of which a value has the fields
-abbrev pub part_by : Data → List ℕ → Option Part
+abbrev pub part_by : Json → List ℕ → Option Part
 part_by d t = if bytes_eq t (codes "create") then create_from d else if bytes_eq t (codes "set") then set_from d else if bytes_eq t (codes "delete") then delete_from d else None
 
 -- the part of which a value has the fields
-abbrev pub part_from : Data → Option Part
+abbrev pub part_from : Json → Option Part
 part_from d = option_and_then (part_by d) (text_at (codes "t") d)
 
 -- a part as a request, where a create tells whether it is sequential
@@ -80,18 +81,18 @@ abbrev pub multi_of : List Part → Option Request
 multi_of parts = if nat_lt 0 (length parts) && nat_lt (length parts) 17 then Some (request.Multi parts) else None
 
 -- the multi of which a value has the parts
-abbrev pub multi_from : Version → Data → Option Request
+abbrev pub multi_from : Version → Json → Option Request
 multi_from version.One d = None
 multi_from version.Two d = option_and_then multi_of (list_at part_from (codes "parts") d)
 
 -- the request of this kind of which a value has the fields
-abbrev pub request_by : Version → Data → List ℕ → Option Request
+abbrev pub request_by : Version → Json → List ℕ → Option Request
 request_by v d t = if bytes_eq t (codes "close") then option_map request.Close (flag_at (codes "evict") d) else if bytes_eq t (codes "multi") then multi_from v d else option_and_then (request_of (flag_at (codes "s") d)) (part_by d t)
 
 -- the request of which a value has the fields
-abbrev pub request_from : Version → Data → Option Request
+abbrev pub request_from : Version → Json → Option Request
 request_from v d = option_and_then (request_by v d) (text_at (codes "t") d)
 
 -- the request at the key `op`
-abbrev pub op_at : Version → Data → Option Request
+abbrev pub op_at : Version → Json → Option Request
 op_at v d = option_and_then (request_from v) (get (codes "op") d)

@@ -1,11 +1,13 @@
 -- The texts of a request on its way to the leader.
 use Rattle.std.specs.Prelude.{◌≡◌, ℕ, ◌^◌, List, codes, Option, option_and_then, option_map}
 use Rattle.std.specs.List.{AllByRecursion}
+use Rattle.json.specs.Json.{Json}
 use Rattle.serde_json.specs.Data.{Data, Members, member, no_members, object, put}
 use Rattle.serde_json.specs.Written.{compact_text}
 use Rattle.fk_tree.specs.declared.applied.Made.{Made}
 use Rattle.fk_wire.specs.Json.{IsTextOf, list_at, list_data, number_at, number_data, path_at, path_data, path_from, version_data}
-use Rattle.fk_wire.specs.Limits.{IsLimitedRequest, IsNumber, IsPath, IsSmall, IsTypedRequest}
+use Rattle.fk_wire.specs.Limits.{IsLimitedRequest, IsTypedRequest}
+use Rattle.fk_base.specs.Limits.{IsNumber, IsPath, IsSmall}
 use Rattle.fk_wire.specs.Mades.{AreTypedMades, CanSayMades, made_in, mades_data}
 use Rattle.fk_wire.specs.Ops.{CanSayRequest, op_at, request_data}
 use Rattle.fk_wire.specs.declared.message.Pushed.{Pushed}
@@ -87,14 +89,14 @@ with_made version.Two made ms = put (codes "made") (mades_data made) ms
 -- ---- reading
 
 -- the numbers of a value
-abbrev pub heading_from : Data → Option Heading
+abbrev pub heading_from : Json → Option Heading
 heading_from d =
     option_and_then (λ session. option_and_then (λ k. option_and_then (λ inv. option_and_then (λ moment. option_map (λ version.
     record { session = session; k = k; inv = inv; moment = moment; version = version })
     (number_at (2 ^ 32) (codes "version") d)) (number_at (2 ^ 63) (codes "moment") d)) (number_at (2 ^ 63) (codes "inv") d)) (number_at (2 ^ 63) (codes "k") d)) (number_at (2 ^ 32) (codes "client") d)
 
 -- the message of which a value has the fields
-abbrev pub pushed_from : Version → Data → Option Pushed
+abbrev pub pushed_from : Version → Json → Option Pushed
 pushed_from v d =
     option_and_then (λ h. option_and_then (λ request. option_and_then (λ name. option_and_then (λ gone. option_and_then (λ made. option_map (λ paths.
     record { session = h.session; k = h.k; inv = h.inv; moment = h.moment; request = request; name = name; version = h.version; gone = gone; made = made; paths = paths })

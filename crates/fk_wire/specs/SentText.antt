@@ -1,9 +1,11 @@
 -- The texts of a request on its way to its follower.
 use Rattle.std.specs.Prelude.{◌≡◌, ℕ, ◌^◌, List, codes, Option, option_and_then, option_map}
+use Rattle.json.specs.Json.{Json}
 use Rattle.serde_json.specs.Data.{Data, member, no_members, object}
 use Rattle.serde_json.specs.Written.{compact_text}
 use Rattle.fk_wire.specs.Json.{IsTextOf, number_at, number_data, version_data}
-use Rattle.fk_wire.specs.Limits.{IsLimitedRequest, IsNumber, IsTypedRequest}
+use Rattle.fk_wire.specs.Limits.{IsLimitedRequest, IsTypedRequest}
+use Rattle.fk_base.specs.Limits.{IsNumber}
 use Rattle.fk_wire.specs.Ops.{CanSayRequest, op_at, request_data}
 use Rattle.fk_wire.specs.declared.message.Sent.{Sent}
 use Rattle.fk_wire.specs.declared.version.Version.{Version}
@@ -37,7 +39,7 @@ abbrev pub IsSentText : List ℕ → Sent → Type 0
 IsSentText = IsTextOf IsSent CanSaySent sent_data
 
 -- the message of which a value has the fields
-abbrev pub sent_from : Version → Data → Option Sent
+abbrev pub sent_from : Version → Json → Option Sent
 sent_from v d = option_and_then (λ request. option_map (λ seen. record { request = request; seen = seen }) (number_at (2 ^ 63) (codes "seen") d)) (op_at v d)
 
 -- A law: bytes are the text of one message.

@@ -1,8 +1,9 @@
 -- The text of a tell. Its key `t` tells its kind.
-use Rattle.std.specs.Prelude.{◌≡◌, ℕ, ◌^◌, ◌==◌, ⊤, ℤ, pos, negsuc, if◌then◌else◌, List, codes, Option, Some, None, option_and_then, option_map}
+use Rattle.std.specs.Prelude.{◌≡◌, ℕ, ◌^◌, ⊤, if◌then◌else◌, List, codes, Option, Some, None, option_and_then, option_map}
 use Rattle.std.specs.Str.{bytes_eq}
+use Rattle.json.specs.Json.{Json}
 use Rattle.serde_json.specs.Data.{Data, object, number, string, Members, member, no_members}
-use Rattle.serde_json.specs.Find.{as_i64, as_number, get, of_integer}
+use Rattle.serde_json.specs.Find.{of_integer}
 use Rattle.serde_json.specs.Written.{compact_text}
 use Rattle.fk_base.specs.Code.{number_of}
 use Rattle.fk_base.specs.declared.code.Code.{Code}
@@ -13,8 +14,8 @@ use Rattle.fk_wire.specs.declared.message.Tell.TheVariants as tell
 use Rattle.fk_wire.specs.declared.version.Version.{Version}
 use Rattle.fk_wire.specs.declared.version.Version.TheVariants as version
 use Rattle.fk_wire.specs.Fired.{IsLimitedFired, IsTypedFired, change_word, fired_from, kind_word}
-use Rattle.fk_wire.specs.Json.{IsTextOf, number_at, number_data, path_at, path_data, text_at, version_data}
-use Rattle.fk_wire.specs.Limits.{IsNumber, IsPath, IsSmall}
+use Rattle.fk_wire.specs.Json.{IsTextOf, digits_at, number_at, number_data, path_at, path_data, text_at, version_data}
+use Rattle.fk_base.specs.Limits.{IsNumber, IsPath, IsSmall}
 use Rattle.fk_wire.specs.Mades.{AreTypedMades, CanSayMades, made_in, mades_data}
 
 -- a code is its number
@@ -115,50 +116,49 @@ CanSayTell version.Two m = ⊤
 abbrev pub IsTellText : List ℕ → Tell → Type 0
 IsTellText = IsTextOf IsTell CanSayTell tell_data
 
--- the code of a number; negsuc n is -(n + 1)
-abbrev pub code_of : ℤ → Option Code
-code_of (pos n) = None
-code_of (negsuc n) =
-    if n == 0 then Some code.SystemError
-    else if n == 3 then Some code.ConnectionLoss
-    else if n == 7 then Some code.BadArguments
-    else if n == 100 then Some code.NoNode
-    else if n == 102 then Some code.BadVersion
-    else if n == 107 then Some code.NoChildrenForEphemerals
-    else if n == 109 then Some code.NodeExists
-    else if n == 110 then Some code.NotEmpty
-    else if n == 111 then Some code.SessionExpired
+-- the code of which this is the number
+abbrev pub code_of : List ℕ → Option Code
+code_of digits =
+    if bytes_eq digits (codes "-1") then Some code.SystemError
+    else if bytes_eq digits (codes "-4") then Some code.ConnectionLoss
+    else if bytes_eq digits (codes "-8") then Some code.BadArguments
+    else if bytes_eq digits (codes "-101") then Some code.NoNode
+    else if bytes_eq digits (codes "-103") then Some code.BadVersion
+    else if bytes_eq digits (codes "-108") then Some code.NoChildrenForEphemerals
+    else if bytes_eq digits (codes "-110") then Some code.NodeExists
+    else if bytes_eq digits (codes "-111") then Some code.NotEmpty
+    else if bytes_eq digits (codes "-112") then Some code.SessionExpired
     else None
 
 -- the code at a key
-abbrev pub code_at : List ℕ → Data → Option Code
-code_at key d = option_and_then code_of (option_and_then as_i64 (option_and_then as_number (get key d)))
+abbrev pub code_at : List ℕ → Json → Option Code
+code_at key j = option_and_then code_of (digits_at key j)
 
 -- the place, in a text of this version
-abbrev pub place_in : Version → Data → Option ℕ
+abbrev pub place_in : Version → Json → Option ℕ
 place_in version.One d = Some 0
 place_in version.Two d = number_at (2 ^ 32) (codes "place") d
 
 -- a commit
-abbrev pub done_from : Version → Data → Option Tell
+abbrev pub done_from : Version → Json → Option Tell
 done_from v d =
     option_and_then (λ k. option_and_then (λ tx. option_and_then (λ name. option_and_then (λ node.
     option_map (tell.Done k tx name node) (made_in v d)) (number_at (2 ^ 32) (codes "version") d))
     (path_at (codes "name") d)) (number_at (2 ^ 63) (codes "tx") d)) (number_at (2 ^ 63) (codes "k") d)
 
 -- a heartbeat's close
-abbrev pub evicted_from : Data → Option Tell
+abbrev pub evicted_from : Json → Option Tell
 evicted_from d =
     option_and_then (λ k. option_map (tell.Evicted k) (number_at (2 ^ 63) (codes "tx") d)) (number_at (2 ^ 63) (codes "k") d)
 
 -- a refusal
-abbrev pub refused_from : Version → Data → Option Tell
+abbrev pub refused_from : Version → Json → Option Tell
 refused_from v d =
     option_and_then (λ k. option_and_then (λ c. option_and_then (λ at. option_map (tell.Refused k c at) (place_in v d))
     (number_at (2 ^ 63) (codes "at") d)) (code_at (codes "code") d)) (number_at (2 ^ 63) (codes "k") d)
 
 -- a loss
-abbrev pub lost_from : Data → Option Tell
+abbrev pub lost_from : Json → Option Tell
 lost_from d =
     option_and_then (λ k. option_and_then (λ path. option_and_then (λ own. option_and_then (λ found.
     option_map (tell.Lost k path own found) (number_at (2 ^ 63) (codes "moment") d))
@@ -166,15 +166,15 @@ lost_from d =
     (path_at (codes "path") d)) (number_at (2 ^ 63) (codes "k") d)
 
 -- a watch
-abbrev pub watch_from : Data → Option Tell
+abbrev pub watch_from : Json → Option Tell
 watch_from d = option_and_then (λ tx. option_map (tell.Watch tx) (fired_from d)) (number_at (2 ^ 63) (codes "tx") d)
 
 -- a ping
-abbrev pub ping_from : Data → Option Tell
+abbrev pub ping_from : Json → Option Tell
 ping_from d = option_map tell.Ping (number_at (2 ^ 63) (codes "n") d)
 
 -- the tell of the kind that a word says
-abbrev pub kind_from : Version → List ℕ → Data → Option Tell
+abbrev pub kind_from : Version → List ℕ → Json → Option Tell
 kind_from v t d =
     if bytes_eq t (codes "done") then done_from v d
     else if bytes_eq t (codes "evicted") then evicted_from d
@@ -185,7 +185,7 @@ kind_from v t d =
     else None
 
 -- the tell of which a value has the fields
-abbrev pub tell_from : Version → Data → Option Tell
+abbrev pub tell_from : Version → Json → Option Tell
 tell_from v d = option_and_then (λ t. kind_from v t d) (text_at (codes "t") d)
 
 -- A law: bytes are the text of one tell.

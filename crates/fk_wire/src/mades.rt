@@ -1,14 +1,16 @@
 //! What the parts of a multi came to, as JSON.
 
 ghost use Rattle.std.specs.Prelude.{◌≡◌, IfOk, IfSome};
+ghost use Rattle.json.specs.Value.{value_view};
 ghost use Rattle.serde_json.specs.View.{view};
 ghost use Rattle.fk_wire.specs.Mades.{AreTypedMades, CanSayMades, IsTypedMade, made_data, made_from, made_in, mades_at, mades_data};
 
-use crate::reading::{SMALL, number_at, path_at};
+use crate::reading::{SMALL, items_at, number_at, path_at};
 use crate::version::Version;
 use crate::writing::text_of_path;
 use fk_base::NoMemory;
 use fk_tree::{Made, Mades};
+use json::Value as Json;
 use serde_json::{Value, json};
 use std::alloc::Global;
 
@@ -35,8 +37,8 @@ pub(crate) fn mades_value(alloc: Global, mades: &Mades) -> Result<Value, NoMemor
     Ok(Value::Array(list))
 }
 
-fn made_from(alloc: Global, value: &Value) -> Result<Option<Made>, NoMemory>
-    ensures made { IfOk result (λ o. o ≡ made_from (view value.now)) }
+fn made_from(alloc: Global, value: &Json<'_>) -> Result<Option<Made>, NoMemory>
+    ensures made { IfOk result (λ o. o ≡ made_from (value_view value.now)) }
     ensures typed { IfOk result (λ o. IfSome o IsTypedMade) }
 {
     let Some(name) = path_at(alloc, value, "name")? else {
@@ -50,15 +52,15 @@ fn made_from(alloc: Global, value: &Value) -> Result<Option<Made>, NoMemory>
 }
 
 /// The entries at a key.
-fn mades_at(alloc: Global, value: &Value, key: &str) -> Result<Option<Mades>, NoMemory>
-    ensures mades { IfOk result (λ o. o ≡ mades_at key.now (view value.now)) }
+fn mades_at(alloc: Global, value: &Json<'_>, key: &str) -> Result<Option<Mades>, NoMemory>
+    ensures mades { IfOk result (λ o. o ≡ mades_at key.now (value_view value.now)) }
     ensures typed { IfOk result (λ o. IfSome o AreTypedMades) }
 {
-    let Some(list) = value.get(key).and_then(Value::as_array) else {
+    let Some(list) = items_at(value, key) else {
         return Ok(None);
     };
     let mut mades = Mades::new(alloc);
-    let mut left = list.as_slice();
+    let mut left = list;
     'reading: while let [first, rest @ ..] = left {
         let Some(made) = made_from(alloc, first)? else {
             return Ok(None);
@@ -73,9 +75,9 @@ fn mades_at(alloc: Global, value: &Value, key: &str) -> Result<Option<Mades>, No
 pub(crate) fn made_in(
     alloc: Global,
     version: Version,
-    value: &Value,
+    value: &Json<'_>,
 ) -> Result<Option<Mades>, NoMemory>
-    ensures made { IfOk result (λ o. o ≡ made_in version (view value.now)) }
+    ensures made { IfOk result (λ o. o ≡ made_in version (value_view value.now)) }
     ensures typed { IfOk result (λ o. IfSome o AreTypedMades) }
     ensures said { IfOk result (λ o. IfSome o (CanSayMades version)) }
 {

@@ -2,17 +2,20 @@
 
 ghost use Rattle.std.specs.Prelude.{◌≡◌, [], IfOk, IfSome};
 ghost use Rattle.std.specs.List.{AllByRecursion};
-ghost use Rattle.serde_json.specs.View.{items_view, view};
+ghost use Rattle.json.specs.Value.{items_view, value_view};
+ghost use Rattle.serde_json.specs.View.{view};
 ghost use Rattle.fk_wire.specs.Json.{items_onto, list_data};
-ghost use Rattle.fk_wire.specs.Limits.{IsData, IsLimitedPart, IsLimitedRequest, IsPath, IsTypedPart, IsTypedRequest};
+ghost use Rattle.fk_wire.specs.Limits.{IsLimitedPart, IsLimitedRequest, IsTypedPart, IsTypedRequest};
+ghost use Rattle.fk_base.specs.Limits.{IsData, IsPath};
 ghost use Rattle.fk_wire.specs.Ops.{CanSayRequest, create_data, create_from, delete_data, delete_from, multi_from, op_at, part_by, part_data, part_from, request_data, request_from, request_of, set_data, set_from};
 
 use crate::object::Object;
-use crate::reading::{bytes_at, expected_at, flag_at, path_at, text_at};
+use crate::reading::{bytes_at, expected_at, flag_at, items_at, path_at, text_at};
 use crate::version::Version;
 use crate::writing::{text_of_bytes, text_of_path};
 use fk_base::{Bytes, NoMemory, Path};
 use fk_tree::{Part, Parts, Request};
+use json::Value as Json;
 use serde_json::{Value, json};
 use std::alloc::Global;
 
@@ -111,8 +114,8 @@ pub(crate) fn request_value(alloc: Global, request: &Request) -> Result<Value, N
     }
 }
 
-fn create_from(alloc: Global, value: &Value) -> Result<Option<Part>, NoMemory>
-    ensures part { IfOk result (λ o. o ≡ create_from (view value.now)) }
+fn create_from(alloc: Global, value: &Json<'_>) -> Result<Option<Part>, NoMemory>
+    ensures part { IfOk result (λ o. o ≡ create_from (value_view value.now)) }
     ensures limited { IfOk result (λ o. IfSome o IsLimitedPart) }
     ensures typed { IfOk result (λ o. IfSome o IsTypedPart) }
 {
@@ -128,8 +131,8 @@ fn create_from(alloc: Global, value: &Value) -> Result<Option<Part>, NoMemory>
     }
 }
 
-fn set_from(alloc: Global, value: &Value) -> Result<Option<Part>, NoMemory>
-    ensures part { IfOk result (λ o. o ≡ set_from (view value.now)) }
+fn set_from(alloc: Global, value: &Json<'_>) -> Result<Option<Part>, NoMemory>
+    ensures part { IfOk result (λ o. o ≡ set_from (value_view value.now)) }
     ensures limited { IfOk result (λ o. IfSome o IsLimitedPart) }
     ensures typed { IfOk result (λ o. IfSome o IsTypedPart) }
 {
@@ -149,8 +152,8 @@ fn set_from(alloc: Global, value: &Value) -> Result<Option<Part>, NoMemory>
     }
 }
 
-fn delete_from(alloc: Global, value: &Value) -> Result<Option<Part>, NoMemory>
-    ensures part { IfOk result (λ o. o ≡ delete_from (view value.now)) }
+fn delete_from(alloc: Global, value: &Json<'_>) -> Result<Option<Part>, NoMemory>
+    ensures part { IfOk result (λ o. o ≡ delete_from (value_view value.now)) }
     ensures limited { IfOk result (λ o. IfSome o IsLimitedPart) }
     ensures typed { IfOk result (λ o. IfSome o IsTypedPart) }
 {
@@ -164,8 +167,8 @@ fn delete_from(alloc: Global, value: &Value) -> Result<Option<Part>, NoMemory>
 }
 
 /// The part of this kind of which a value has the fields.
-fn part_by(alloc: Global, value: &Value, kind: &str) -> Result<Option<Part>, NoMemory>
-    ensures part { IfOk result (λ o. o ≡ part_by (view value.now) kind.now) }
+fn part_by(alloc: Global, value: &Json<'_>, kind: &str) -> Result<Option<Part>, NoMemory>
+    ensures part { IfOk result (λ o. o ≡ part_by (value_view value.now) kind.now) }
     ensures limited { IfOk result (λ o. IfSome o IsLimitedPart) }
     ensures typed { IfOk result (λ o. IfSome o IsTypedPart) }
 {
@@ -177,8 +180,8 @@ fn part_by(alloc: Global, value: &Value, kind: &str) -> Result<Option<Part>, NoM
     }
 }
 
-fn part_from(alloc: Global, value: &Value) -> Result<Option<Part>, NoMemory>
-    ensures part { IfOk result (λ o. o ≡ part_from (view value.now)) }
+fn part_from(alloc: Global, value: &Json<'_>) -> Result<Option<Part>, NoMemory>
+    ensures part { IfOk result (λ o. o ≡ part_from (value_view value.now)) }
     ensures limited { IfOk result (λ o. IfSome o IsLimitedPart) }
     ensures typed { IfOk result (λ o. IfSome o IsTypedPart) }
 {
@@ -189,7 +192,7 @@ fn part_from(alloc: Global, value: &Value) -> Result<Option<Part>, NoMemory>
 }
 
 /// The parts of which the items have the fields, where each has those of one.
-fn parts_from(alloc: Global, items: &[Value]) -> Result<Option<Parts>, NoMemory>
+fn parts_from(alloc: Global, items: &[Json<'_>]) -> Result<Option<Parts>, NoMemory>
     ensures parts { IfOk result (λ o. o ≡ items_onto part_from [] (items_view items.now)) }
     ensures limited { IfOk result (λ o. IfSome o (AllByRecursion IsLimitedPart)) }
     ensures typed { IfOk result (λ o. IfSome o (AllByRecursion IsTypedPart)) }
@@ -207,8 +210,8 @@ fn parts_from(alloc: Global, items: &[Value]) -> Result<Option<Parts>, NoMemory>
 }
 
 /// The multi of which a value has the parts, 1 to 16.
-fn multi_from(alloc: Global, version: Version, value: &Value) -> Result<Option<Request>, NoMemory>
-    ensures request { IfOk result (λ o. o ≡ multi_from version (view value.now)) }
+fn multi_from(alloc: Global, version: Version, value: &Json<'_>) -> Result<Option<Request>, NoMemory>
+    ensures request { IfOk result (λ o. o ≡ multi_from version (value_view value.now)) }
     ensures limited { IfOk result (λ o. IfSome o IsLimitedRequest) }
     ensures typed { IfOk result (λ o. IfSome o IsTypedRequest) }
     ensures said { IfOk result (λ o. IfSome o (CanSayRequest version)) }
@@ -216,10 +219,10 @@ fn multi_from(alloc: Global, version: Version, value: &Value) -> Result<Option<R
     let Version::Two = version else {
         return Ok(None);
     };
-    let Some(items) = value.get("parts").and_then(Value::as_array) else {
+    let Some(items) = items_at(value, "parts") else {
         return Ok(None);
     };
-    let Some(parts) = parts_from(alloc, items.as_slice())? else {
+    let Some(parts) = parts_from(alloc, items)? else {
         return Ok(None);
     };
     let count = parts.as_slice().len();
@@ -263,8 +266,8 @@ fn request_of(version: Version, seq: Option<bool>, part: Part) -> Option<Request
 }
 
 /// The request of which a value has the fields.
-fn request_from(alloc: Global, version: Version, value: &Value) -> Result<Option<Request>, NoMemory>
-    ensures request { IfOk result (λ o. o ≡ request_from version (view value.now)) }
+fn request_from(alloc: Global, version: Version, value: &Json<'_>) -> Result<Option<Request>, NoMemory>
+    ensures request { IfOk result (λ o. o ≡ request_from version (value_view value.now)) }
     ensures limited { IfOk result (λ o. IfSome o IsLimitedRequest) }
     ensures typed { IfOk result (λ o. IfSome o IsTypedRequest) }
     ensures said { IfOk result (λ o. IfSome o (CanSayRequest version)) }
@@ -286,9 +289,9 @@ fn request_from(alloc: Global, version: Version, value: &Value) -> Result<Option
 pub(crate) fn op_at(
     alloc: Global,
     version: Version,
-    value: &Value,
+    value: &Json<'_>,
 ) -> Result<Option<Request>, NoMemory>
-    ensures request { IfOk result (λ o. o ≡ op_at version (view value.now)) }
+    ensures request { IfOk result (λ o. o ≡ op_at version (value_view value.now)) }
     ensures limited { IfOk result (λ o. IfSome o IsLimitedRequest) }
     ensures typed { IfOk result (λ o. IfSome o IsTypedRequest) }
     ensures said { IfOk result (λ o. IfSome o (CanSayRequest version)) }

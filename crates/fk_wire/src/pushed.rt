@@ -1,9 +1,11 @@
 //! The texts of a request on its way to the leader.
 
-ghost use Rattle.std.specs.Prelude.{◌≡◌, ◌<◌, ◌^◌, Err, IfOk, IfSome};
+ghost use Rattle.std.specs.Prelude.{◌≡◌, ◌<◌, ◌^◌, Err, IfOk, IfSome, IfNone};
 ghost use Rattle.std.specs.List.{AllByRecursion};
+ghost use Rattle.json.specs.Value.{value_view};
 ghost use Rattle.serde_json.specs.View.{view};
-ghost use Rattle.fk_wire.specs.Limits.{IsNumber, IsPath, IsSmall};
+ghost use Rattle.fk_base.specs.Limits.{IsNumber, IsPath, IsSmall};
+ghost use Rattle.fk_wire.specs.Json.{HasFields, IsText};
 ghost use Rattle.fk_wire.specs.Mades.{AreTypedMades};
 ghost use Rattle.fk_wire.specs.Objects.{members};
 ghost use Rattle.fk_wire.specs.PushedText.{CanSayPushed, IsLimitedPushed, IsPushed, IsPushedText, IsTypedPushed, OnePushed, heading_from, heading_members, pushed_data, pushed_from, pushed_text, with_made, with_paths};
@@ -16,10 +18,12 @@ use crate::message::Pushed;
 use crate::object::Object;
 use crate::op::{op_at, request_value};
 use crate::reading::{NUMBERS, SMALL, number_at, path_at, paths_at, value_of, version_from};
+use crate::reader::Reader;
 use crate::version::Version;
 use crate::writing::{is_same, paths_value, text_of, text_of_path};
 use fk_base::{Bytes, NoMemory};
 use fk_tree::Mades;
+use json::{Scratch, Value as Json};
 use serde_json::Value;
 use std::alloc::Global;
 
@@ -90,8 +94,8 @@ fn pushed_value(alloc: Global, version: Version, message: &Pushed) -> Result<Val
 }
 
 /// The numbers of which a value has the fields.
-fn heading_from(value: &Value) -> Option<Heading>
-    ensures heading { result ≡ heading_from (view value.now) }
+fn heading_from(value: &Json<'_>) -> Option<Heading>
+    ensures heading { result ≡ heading_from (value_view value.now) }
     ensures small { IfSome result (λ h. IsSmall h.session × IsSmall h.version) }
     ensures limited { IfSome result (λ h. IsNumber h.k × IsNumber h.inv × IsNumber h.moment) }
 {
@@ -110,8 +114,8 @@ fn heading_from(value: &Value) -> Option<Heading>
 }
 
 /// The message of which a value has the fields.
-fn pushed_from(alloc: Global, version: Version, value: &Value) -> Result<Option<Pushed>, NoMemory>
-    ensures message { IfOk result (λ o. o ≡ pushed_from version (view value.now)) }
+fn pushed_from(alloc: Global, version: Version, value: &Json<'_>) -> Result<Option<Pushed>, NoMemory>
+    ensures message { IfOk result (λ o. o ≡ pushed_from version (value_view value.now)) }
     ensures pushed { IfOk result (λ o. IfSome o IsPushed) }
     ensures said { IfOk result (λ o. IfSome o (CanSayPushed version)) }
 {
@@ -157,19 +161,52 @@ pub fn encode_pushed(alloc: Global, message: &Pushed) -> Result<Bytes, NoMemory>
     text_of(alloc, &value)
 }
 
+/// The message of which a text has the fields, and its version.
+fn found(
+    alloc: Global,
+    bytes: &[u8],
+    scratch: &mut Scratch,
+) -> Result<Option<(Version, Pushed)>, NoMemory>
+    ensures fields { IfOk result (λ o. IfSome o
+        (λ p. HasFields pushed_from bytes.now p.0 p.1)) }
+    ensures limits { IfOk result (λ o. IfSome o (λ p. IsPushed p.1)) }
+    ensures said { IfOk result (λ o. IfSome o (λ p. CanSayPushed p.0 p.1)) }
+    ensures none { IfOk result (λ o. IfNone o
+        ((m : Pushed) → ¬ (IsPushedText bytes.now m))) }
+{
+    let Some(value) = value_of(alloc, bytes, scratch)? else {
+        return Ok(None);
+    };
+    let Some(version) = version_from(&value) else {
+        return Ok(None);
+    };
+    match pushed_from(alloc, version, &value)? {
+        Some(message) => Ok(Some((version, message))),
+        None => Ok(None),
+    }
+}
+
+/// The message that a reader's text is, in either version.
+pub fn pushed_of(alloc: Global, reader: &mut Reader) -> Result<Pushed, NoMemory>
+    requires text { IsText IsPushedText reader.old.text.items }
+    ensures message { IfOk result (IsPushedText reader.old.text.items) }
+    ensures back { (m : Pushed) → IsPushedText reader.old.text.items m
+        → IfOk result (λ n. n ≡ m) }
+{
+    match found(alloc, reader.text.as_slice(), &mut reader.scratch)? {
+        Some((_, message)) => Ok(message),
+        None => unreachable!(),
+    }
+}
+
 /// The message of a text, in either version.
 pub fn decode_pushed(alloc: Global, bytes: &[u8]) -> Result<Pushed, WireFault>
     ensures message { IfOk result (IsPushedText bytes.now) }
     ensures back { (m : Pushed) → IsPushedText bytes.now m → IfOk result (λ n. n ≡ m) }
     ensures malformed { result ≡ Err WireFault.Malformed → (m : Pushed) → ¬ (IsPushedText bytes.now m) }
 {
-    let Some(value) = value_of(alloc, bytes)? else {
-        return Err(WireFault::Malformed);
-    };
-    let Some(version) = version_from(&value) else {
-        return Err(WireFault::Malformed);
-    };
-    let Some(message) = pushed_from(alloc, version, &value)? else {
+    let mut scratch = Scratch::new(alloc);
+    let Some((version, message)) = found(alloc, bytes, &mut scratch)? else {
         return Err(WireFault::Malformed);
     };
     let again = pushed_value(alloc, version, &message)?;

@@ -1,46 +1,46 @@
 //! The tells of which values have the fields.
 
 ghost use Rattle.std.specs.Prelude.{◌≡◌, IfOk, IfSome};
-ghost use Rattle.serde_json.specs.View.{view};
-ghost use Rattle.fk_wire.specs.Limits.{IsSmall};
+ghost use Rattle.json.specs.Value.{value_view};
+ghost use Rattle.fk_base.specs.Limits.{IsSmall};
 ghost use Rattle.fk_wire.specs.declared.version.Version.{Version};
 ghost use Rattle.fk_wire.specs.TellText.{CanSayTell, IsTell, code_at, code_of, done_from, evicted_from, kind_from, lost_from, ping_from, place_in, refused_from, tell_from, watch_from};
 
 use crate::mades::made_in;
 use crate::message::Tell;
-use crate::reading::{NUMBERS, SMALL, number_at, path_at, text_at};
+use crate::reading::{NUMBERS, SMALL, digits_at, number_at, path_at, text_at};
 use crate::version::Version;
 use crate::watches::fired_from;
 use fk_base::{Code, NoMemory};
-use serde_json::Value;
+use json::Value;
 use std::alloc::Global;
 
-fn code_of(number: i64) -> Option<Code>
-    ensures { result ≡ code_of number }
+fn code_of(digits: &str) -> Option<Code>
+    ensures { result ≡ code_of digits.now }
 {
-    match number {
-        -1 => Some(Code::SystemError),
-        -4 => Some(Code::ConnectionLoss),
-        -8 => Some(Code::BadArguments),
-        -101 => Some(Code::NoNode),
-        -103 => Some(Code::BadVersion),
-        -108 => Some(Code::NoChildrenForEphemerals),
-        -110 => Some(Code::NodeExists),
-        -111 => Some(Code::NotEmpty),
-        -112 => Some(Code::SessionExpired),
+    match digits {
+        "-1" => Some(Code::SystemError),
+        "-4" => Some(Code::ConnectionLoss),
+        "-8" => Some(Code::BadArguments),
+        "-101" => Some(Code::NoNode),
+        "-103" => Some(Code::BadVersion),
+        "-108" => Some(Code::NoChildrenForEphemerals),
+        "-110" => Some(Code::NodeExists),
+        "-111" => Some(Code::NotEmpty),
+        "-112" => Some(Code::SessionExpired),
         _ => None,
     }
 }
 
-fn code_at(value: &Value, key: &str) -> Option<Code>
-    ensures { result ≡ code_at key.now (view value.now) }
+fn code_at(value: &Value<'_>, key: &str) -> Option<Code>
+    ensures { result ≡ code_at key.now (value_view value.now) }
 {
-    code_of(value.get(key).and_then(Value::as_i64)?)
+    code_of(digits_at(value, key)?)
 }
 
 /// The place of a refusal, which version 1 has none of.
-fn place_in(version: Version, value: &Value) -> Option<u32>
-    ensures place { result ≡ place_in version (view value.now) }
+fn place_in(version: Version, value: &Value<'_>) -> Option<u32>
+    ensures place { result ≡ place_in version (value_view value.now) }
     ensures typed { IfSome result IsSmall }
 {
     match version {
@@ -52,8 +52,8 @@ fn place_in(version: Version, value: &Value) -> Option<u32>
     }
 }
 
-fn done_from(alloc: Global, version: Version, value: &Value) -> Result<Option<Tell>, NoMemory>
-    ensures message { IfOk result (λ o. o ≡ done_from version (view value.now)) }
+fn done_from(alloc: Global, version: Version, value: &Value<'_>) -> Result<Option<Tell>, NoMemory>
+    ensures message { IfOk result (λ o. o ≡ done_from version (value_view value.now)) }
     ensures tell { IfOk result (λ o. IfSome o IsTell) }
     ensures said { IfOk result (λ o. IfSome o (CanSayTell version)) }
 {
@@ -82,8 +82,8 @@ fn done_from(alloc: Global, version: Version, value: &Value) -> Result<Option<Te
     }
 }
 
-fn evicted_from(value: &Value) -> Option<Tell>
-    ensures message { result ≡ evicted_from (view value.now) }
+fn evicted_from(value: &Value<'_>) -> Option<Tell>
+    ensures message { result ≡ evicted_from (value_view value.now) }
     ensures tell { IfSome result IsTell }
     ensures said { IfSome result (λ m. (v : Version) → CanSayTell v m) }
 {
@@ -92,8 +92,8 @@ fn evicted_from(value: &Value) -> Option<Tell>
     Some(Tell::Evicted { k, tx })
 }
 
-fn refused_from(version: Version, value: &Value) -> Option<Tell>
-    ensures message { result ≡ refused_from version (view value.now) }
+fn refused_from(version: Version, value: &Value<'_>) -> Option<Tell>
+    ensures message { result ≡ refused_from version (value_view value.now) }
     ensures tell { IfSome result IsTell }
     ensures said { IfSome result (CanSayTell version) }
 {
@@ -104,8 +104,8 @@ fn refused_from(version: Version, value: &Value) -> Option<Tell>
     Some(Tell::Refused { k, code, at, place })
 }
 
-fn lost_from(alloc: Global, value: &Value) -> Result<Option<Tell>, NoMemory>
-    ensures message { IfOk result (λ o. o ≡ lost_from (view value.now)) }
+fn lost_from(alloc: Global, value: &Value<'_>) -> Result<Option<Tell>, NoMemory>
+    ensures message { IfOk result (λ o. o ≡ lost_from (value_view value.now)) }
     ensures tell { IfOk result (λ o. IfSome o IsTell) }
     ensures said { IfOk result (λ o. IfSome o (λ m. (v : Version) → CanSayTell v m)) }
 {
@@ -133,8 +133,8 @@ fn lost_from(alloc: Global, value: &Value) -> Result<Option<Tell>, NoMemory>
     }
 }
 
-fn watch_from(alloc: Global, value: &Value) -> Result<Option<Tell>, NoMemory>
-    ensures message { IfOk result (λ o. o ≡ watch_from (view value.now)) }
+fn watch_from(alloc: Global, value: &Value<'_>) -> Result<Option<Tell>, NoMemory>
+    ensures message { IfOk result (λ o. o ≡ watch_from (value_view value.now)) }
     ensures tell { IfOk result (λ o. IfSome o IsTell) }
     ensures said { IfOk result (λ o. IfSome o (λ m. (v : Version) → CanSayTell v m)) }
 {
@@ -147,8 +147,8 @@ fn watch_from(alloc: Global, value: &Value) -> Result<Option<Tell>, NoMemory>
     }
 }
 
-fn ping_from(value: &Value) -> Option<Tell>
-    ensures message { result ≡ ping_from (view value.now) }
+fn ping_from(value: &Value<'_>) -> Option<Tell>
+    ensures message { result ≡ ping_from (value_view value.now) }
     ensures tell { IfSome result IsTell }
     ensures said { IfSome result (λ m. (v : Version) → CanSayTell v m) }
 {
@@ -161,9 +161,9 @@ fn kind_from(
     alloc: Global,
     version: Version,
     kind: &str,
-    value: &Value,
+    value: &Value<'_>,
 ) -> Result<Option<Tell>, NoMemory>
-    ensures message { IfOk result (λ o. o ≡ kind_from version kind.now (view value.now)) }
+    ensures message { IfOk result (λ o. o ≡ kind_from version kind.now (value_view value.now)) }
     ensures tell { IfOk result (λ o. IfSome o IsTell) }
     ensures said { IfOk result (λ o. IfSome o (CanSayTell version)) }
 {
@@ -188,9 +188,9 @@ fn kind_from(
 pub(crate) fn tell_from(
     alloc: Global,
     version: Version,
-    value: &Value,
+    value: &Value<'_>,
 ) -> Result<Option<Tell>, NoMemory>
-    ensures message { IfOk result (λ o. o ≡ tell_from version (view value.now)) }
+    ensures message { IfOk result (λ o. o ≡ tell_from version (value_view value.now)) }
     ensures tell { IfOk result (λ o. IfSome o IsTell) }
     ensures said { IfOk result (λ o. IfSome o (CanSayTell version)) }
 {

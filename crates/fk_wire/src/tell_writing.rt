@@ -5,7 +5,7 @@ ghost use Rattle.serde_json.specs.View.{view};
 ghost use Rattle.fk_tree.specs.declared.applied.Made.{Made};
 ghost use Rattle.fk_wire.specs.Mades.{mades_data};
 ghost use Rattle.fk_wire.specs.TellText.{CanSayTell, IsTypedTell, tell_data};
-ghost use Rattle.fk_wire.specs.Limits.{IsPath};
+ghost use Rattle.fk_base.specs.Limits.{IsPath};
 
 use crate::fired::Fired;
 use crate::mades::mades_value;

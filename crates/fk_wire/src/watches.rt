@@ -1,14 +1,16 @@
 //! Watches that fired, as JSON.
 
 ghost use Rattle.std.specs.Prelude.{◌≡◌, IfOk, IfSome};
+ghost use Rattle.json.specs.Value.{value_view};
 ghost use Rattle.serde_json.specs.View.{view};
 ghost use Rattle.fk_wire.specs.Fired.{AreLimitedFired, AreTypedFired, IsLimitedFired, IsTypedFired, change_at, change_of, change_word, fired_data, fired_from, fired_list_at, fired_list_data, kind_at, kind_of, kind_word};
 
 use crate::fired::{Fired, FiredList};
-use crate::reading::{NUMBERS, SMALL, number_at, path_at, text_at};
+use crate::reading::{NUMBERS, SMALL, items_at, number_at, path_at, text_at};
 use crate::writing::text_of_path;
 use fk_base::NoMemory;
 use fk_tree::{Change, Kind};
+use json::Value as Json;
 use serde_json::{Value, json};
 use std::alloc::Global;
 
@@ -62,14 +64,14 @@ fn change_of(word: &str) -> Option<Change>
     }
 }
 
-fn kind_at(value: &Value, key: &str) -> Option<Kind>
-    ensures { result ≡ kind_at key.now (view value.now) }
+fn kind_at(value: &Json<'_>, key: &str) -> Option<Kind>
+    ensures { result ≡ kind_at key.now (value_view value.now) }
 {
     kind_of(text_at(value, key)?)
 }
 
-fn change_at(value: &Value, key: &str) -> Option<Change>
-    ensures { result ≡ change_at key.now (view value.now) }
+fn change_at(value: &Json<'_>, key: &str) -> Option<Change>
+    ensures { result ≡ change_at key.now (value_view value.now) }
 {
     change_of(text_at(value, key)?)
 }
@@ -102,8 +104,8 @@ pub(crate) fn fired_list_value(alloc: Global, list: &FiredList) -> Result<Value,
 }
 
 /// The watch that a value says.
-pub(crate) fn fired_from(alloc: Global, value: &Value) -> Result<Option<Fired>, NoMemory>
-    ensures fired { IfOk result (λ o. o ≡ fired_from (view value.now)) }
+pub(crate) fn fired_from(alloc: Global, value: &Json<'_>) -> Result<Option<Fired>, NoMemory>
+    ensures fired { IfOk result (λ o. o ≡ fired_from (value_view value.now)) }
     ensures limits { IfOk result (λ o. IfSome o IsLimitedFired) }
     ensures typed { IfOk result (λ o. IfSome o IsTypedFired) }
 {
@@ -135,18 +137,18 @@ pub(crate) fn fired_from(alloc: Global, value: &Value) -> Result<Option<Fired>, 
 /// The watches at a key.
 pub(crate) fn fired_list_at(
     alloc: Global,
-    value: &Value,
+    value: &Json<'_>,
     key: &str,
 ) -> Result<Option<FiredList>, NoMemory>
-    ensures list { IfOk result (λ o. o ≡ fired_list_at key.now (view value.now)) }
+    ensures list { IfOk result (λ o. o ≡ fired_list_at key.now (value_view value.now)) }
     ensures limits { IfOk result (λ o. IfSome o AreLimitedFired) }
     ensures typed { IfOk result (λ o. IfSome o AreTypedFired) }
 {
-    let Some(list) = value.get(key).and_then(Value::as_array) else {
+    let Some(list) = items_at(value, key) else {
         return Ok(None);
     };
     let mut fired = FiredList::new(alloc);
-    let mut left = list.as_slice();
+    let mut left = list;
     'reading: while let [first, rest @ ..] = left {
         let Some(one) = fired_from(alloc, first)? else {
             return Ok(None);

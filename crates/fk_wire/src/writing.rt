@@ -8,7 +8,7 @@ ghost use Rattle.serde_json.specs.View.{view};
 ghost use Rattle.serde_json.specs.Written.{compact_text, has_float};
 ghost use Rattle.fk_base.specs.Path.{path_text};
 ghost use Rattle.fk_wire.specs.Json.{list_data, path_data};
-ghost use Rattle.fk_wire.specs.Limits.{IsData, IsPath};
+ghost use Rattle.fk_base.specs.Limits.{IsData, IsPath};
 
 use base64::engine::general_purpose::STANDARD;
 use fk_base::{Bytes, NoMemory, Path, Text};

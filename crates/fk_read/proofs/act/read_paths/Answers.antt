@@ -1,5 +1,5 @@
 use Rattle.std.proofs.Common.{◌∙◌, arith}
-use Rattle.fk_print.specs.WellFormed.{IsPath}
+use Rattle.fk_base.specs.Limits.{IsPath}
 use Rattle.fk_read.specs.ReadWords.{path_of_word}
 use Rattle.fk_read.specs.Reads.{take}
 use Rattle.fk_read.proofs.Loops.{each_more, length_more, take_more}

@@ -1,6 +1,6 @@
 use Rattle.std.proofs.Common.{◌≡◌, ◌-◌, length}
 use Rattle.std.specs.List.{AllByRecursion}
-use Rattle.fk_print.specs.WellFormed.{IsPath}
+use Rattle.fk_base.specs.Limits.{IsPath}
 use Rattle.fk_read.specs.ReadAct.{take_onto}
 use Rattle.fk_read.specs.ReadWords.{path_of_word}
 use Rattle.fk_read.specs.Reads.{take}

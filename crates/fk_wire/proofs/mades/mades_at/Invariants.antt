@@ -1,5 +1,5 @@
 use Rattle.std.proofs.Common.{◌≡◌, [], length}
-use Rattle.serde_json.specs.View.{items_view}
+use Rattle.json.specs.Value.{items_view}
 use Rattle.fk_wire.specs.Json.{items_onto}
 use Rattle.fk_wire.specs.Mades.{AreTypedMades, made_from}
 use Rattle.fk_wire.proofs.mades.mades_at.Given as goal

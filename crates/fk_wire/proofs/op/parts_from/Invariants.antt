@@ -1,6 +1,6 @@
 use Rattle.std.proofs.Common.{◌≡◌, [], length}
 use Rattle.std.specs.List.{AllByRecursion}
-use Rattle.serde_json.specs.View.{items_view}
+use Rattle.json.specs.Value.{items_view}
 use Rattle.fk_wire.specs.Json.{items_onto}
 use Rattle.fk_wire.specs.Limits.{IsLimitedPart, IsTypedPart}
 use Rattle.fk_wire.specs.Ops.{part_from}

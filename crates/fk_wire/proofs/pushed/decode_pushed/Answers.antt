@@ -1,33 +1,18 @@
 use Rattle.std.proofs.Common.{ap, sym, ◌∙◌, true≢false}
 use Rattle.serde_json.specs.Written.{compact_text}
 use Rattle.fk_wire.proofs.Pusheds.{pusheds}
-use Rattle.fk_wire.proofs.Texts.{fieldless, float_free, only_message, other_text, refused, versionless}
+use Rattle.fk_wire.proofs.Texts.{float_free, only_message, other_text}
 use Rattle.fk_wire.proofs.pushed.decode_pushed.Goals as goal
-
-pub returns-in_default-clause-malformed : goal.returns-in_default-clause-malformed
-returns-in_default-clause-malformed c e = refused pusheds _ (rw c.in_default.is at c.in_ok-value.ensures.none)
-
-pub returns-in_default-version_from-clause-malformed :
-    goal.returns-in_default-version_from-clause-malformed
-returns-in_default-version_from-clause-malformed c e =
-    versionless pusheds _ _ (rw c.in-Some.is at c.in_ok-value.ensures.some) (sym c.version_from.ensures ∙ c.in_default-version_from.is)
-
-pub returns-in_default-2-clause-malformed : goal.returns-in_default-2-clause-malformed
-returns-in_default-2-clause-malformed c e =
-    fieldless pusheds _ _ _ (rw c.in-Some.is at c.in_ok-value.ensures.some) (sym c.in-Some-version_from.ensures)
-    (sym c.in_ok-message.ensures.message ∙ c.in_default-2.is)
 
 pub text_of-requires : goal.text_of-requires
 text_of-requires c =
-    rw c.in_ok-again.ensures.value (float_free pusheds _ _ (rw c.in-Some-2.is at c.in_ok-message.ensures.pushed) (rw c.in-Some-2.is at c.in_ok-message.ensures.said))
+    rw c.in_ok-again.ensures.value (float_free pusheds _ _ (rw c.in-Some.is at c.in_ok-version.ensures.limits) (rw c.in-Some.is at c.in_ok-version.ensures.said))
 
 pub returns-clause-malformed : goal.returns-clause-malformed
 returns-clause-malformed c e =
-    other_text pusheds _ _ _ _ (rw c.in-Some.is at c.in_ok-value.ensures.some) (sym c.in-Some-version_from.ensures)
-    (sym c.in_ok-message.ensures.message ∙ c.in-Some-2.is)
+    other_text pusheds _ _ _ (rw c.in-Some.is at c.in_ok-version.ensures.fields)
     (λ same. true≢false (sym (c.is_same.ensures.1 (c.as_slice.ensures ∙ (c.in_ok-text.ensures ∙ (ap compact_text c.in_ok-again.ensures.value ∙ same)))) ∙ c.if-is_same.false))
 
 pub returns-then-is_same-clause-back : goal.returns-then-is_same-clause-back
 returns-then-is_same-clause-back c =
-    only_message pusheds _ _ _ _ (rw c.in-Some.is at c.in_ok-value.ensures.some) (sym c.in-Some-version_from.ensures)
-    (sym c.in_ok-message.ensures.message ∙ c.in-Some-2.is)
+    only_message pusheds _ _ _ (rw c.in-Some.is at c.in_ok-version.ensures.fields)

@@ -1,8 +1,8 @@
 use Rattle.std.proofs.Common.{◌≡◌, [], length}
 use Rattle.std.specs.List.{AllByRecursion}
-use Rattle.serde_json.specs.View.{items_view}
+use Rattle.json.specs.Value.{items_view}
 use Rattle.fk_wire.specs.Json.{items_onto, path_from}
-use Rattle.fk_wire.specs.Limits.{IsPath}
+use Rattle.fk_base.specs.Limits.{IsPath}
 use Rattle.fk_wire.proofs.reading.paths_from.Given as goal
 
 abbrev pub invariant-reading : goal.invariant-reading
