@@ -2,6 +2,7 @@
 use Rattle.std.specs.Prelude.{◌==◌, if◌then◌else◌, option_map}
 use Rattle.std.proofs.Common.{◌≡◌, ℕ, ◌+◌, Bool, true, false, List, [], ◌∷◌, refl, sym, ◌∙◌, ap, subst, arith, Option, Some, None}
 use Rattle.std.proofs.lemmas.Bool.Decides.{nat_tests}
+use Rattle.std.proofs.lemmas.Option.{same_Some}
 use Rattle.fk_base.specs.Path.{PathNames}
 use Rattle.fk_tree.specs.Sorted.{has_path}
 use Rattle.fk_tree.specs.declared.applied.Applied.{Applied}
@@ -150,9 +151,6 @@ IsItsMessage p t h x = (y : start.Pushed) → IsLive t h → push_message_of p t
 
 live_step : (p : Plan) (t : ℕ) (e : Entry) (h : List Entry) (x : Pushed) → IsHistory p (e ∷ h) → IsItsMessage p t h x → IsItsMessage p t (e ∷ h) x
 live_step p t e h x l i y v m q = by_push (push_here t (pushed_in (clock_of h) e.op)) refl
-  where
-    some_same : (a d : Push) → Some a ≡ Some d → a ≡ d
-    some_same a d i = cc
 
     by_push : (o : Option Push) → push_here t (pushed_in (clock_of h) e.op) ≡ o → applied_as t x ≡ filled_after (committed_of p (e ∷ h)) t y
     by_push None b =
@@ -162,7 +160,7 @@ live_step p t e h x l i y v m q = by_push (push_here t (pushed_in (clock_of h) e
         i y (was_live p t e h l v w) (subst (λ o. or_else o (push_message_of p t h) ≡ Some x) (no_message p t h e.op b) m) a
         ∙ sym (filled_on p t e h y l (seen p h l.0) v a w)
     by_push (Some u) b =
-        let f : u.function ≡ v.function = ap (λ z. z.function) (some_same u v.is_of.push (subst (λ o. or_else o (push_of t h) ≡ Some v.is_of.push) b v.is_of.pushed)) ∙ v.is_of.function in
+        let f : u.function ≡ v.function = ap (λ z. z.function) (same_Some u v.is_of.push (subst (λ o. or_else o (push_of t h) ≡ Some v.is_of.push) b v.is_of.pushed)) ∙ v.is_of.function in
         let g = new_push t h e.op u b ∙ ap (λ z. op.Push z t) f in
         let n = new_push_is p t v.function v.session v.k e h y l g v.is_of v.next v.own q in
         subst (λ z. applied_as t z ≡ filled_after (committed_of p (e ∷ h)) t y) (one_message (push_message_of p t h) x n.message (messages.push_here p t h e.op) (its_message p t v.function h e.op g ∙ n.is) m) n.same

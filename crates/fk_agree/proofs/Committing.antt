@@ -8,7 +8,6 @@ use Rattle.fk_tree.specs.Edit.{closes, edited, effects, view_after}
 use Rattle.fk_tree.specs.Sorted.{has_path, in_path_order}
 use Rattle.fk_tree.specs.Touch.{edit_paths, edited_paths}
 use Rattle.fk_tree.specs.Tree.{map_some}
-use Rattle.fk_tree.proofs.Order.{by_test}
 use Rattle.fk_print.specs.declared.entry.Entry.{Entry}
 use Rattle.fk_print.specs.declared.event.Event.{Event}
 use Rattle.fk_print.specs.declared.line.Line.{Line}
@@ -40,12 +39,12 @@ use Rattle.fk_law.proofs.Editing.{live_push_edits_what_it_locked}
 use Rattle.fk_law.proofs.Leaving.{commit_is}
 use Rattle.fk_law.proofs.Locking.{lock_names_a_granted_path}
 use Rattle.fk_law.proofs.Settled.{session_of_its_push}
-use Rattle.fk_law.proofs.Numbers.{itself}
 use Rattle.fk_agree.specs.Pushes.{Tells}
 use Rattle.fk_agree.specs.Commits.{CommitIsWritten}
 use Rattle.fk_agree.proofs.Carried.{live_push_is_its_message}
 use Rattle.fk_agree.proofs.Telling.{message_tells_its_push}
 use Rattle.fk_agree.proofs.Writing.{arm_stays, changed, changes_leave_done, changes_leave_sessions, changes_written, done_append, done_is_written, faults_stay, freed, no_changes_written, no_releases_written, nodes_written, records_append, releases_leave_done, releases_leave_sessions, releases_written, sessions_append, sessions_written}
+use Rattle.fk_base.proofs.Logic.{by_test, itself}
 
 -- All writes of a commit, at a path and at a session. ---------------------------------------------------
 

@@ -3,7 +3,6 @@ use Rattle.std.specs.Prelude.{◌==◌, option_map}
 use Rattle.std.proofs.Common.{◌≡◌, ℕ, suc, ◌+◌, ◌-◌, ◌<◌, ◌++◌, Bool, true, false, cond, List, [], ◌∷◌, length, refl, sym, ◌∙◌, ap, subst, arith, Option, Some, None}
 use Rattle.std.proofs.lemmas.Bool.{false≢true}
 use Rattle.std.proofs.lemmas.Bool.Decides.{nat_tests}
-use Rattle.fk_tree.proofs.Order.{by_test}
 use Rattle.fk_print.specs.declared.entry.Entry.{Entry}
 use Rattle.fk_print.specs.declared.op.Op.{Op}
 use Rattle.fk_print.specs.declared.op.Op.TheVariants as op
@@ -31,6 +30,7 @@ use Rattle.fk_law.proofs.Settled.{reached}
 use Rattle.fk_law.proofs.Starting.{follower_task, leader_task, place_for}
 use Rattle.fk_agree.specs.Letters.{HeadsAreTheRules, IsCounted, LanesAreCounted}
 use Rattle.fk_agree.proofs.Carried.{message_at}
+use Rattle.fk_base.proofs.Logic.{by_test}
 
 -- Counted lanes. ----------------------------------------------------------------------------------------
 

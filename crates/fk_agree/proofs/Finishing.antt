@@ -4,7 +4,6 @@ use Rattle.std.proofs.Common.{◌≡◌, ℕ, ◌<◌, ◌++◌, Bool, true, fal
 use Rattle.std.proofs.lemmas.Bool.{false≢true}
 use Rattle.std.proofs.lemmas.Bool.Decides.{nat_tests}
 use Rattle.fk_tree.specs.Tree.{map_some}
-use Rattle.fk_tree.proofs.Order.{by_test}
 use Rattle.fk_print.specs.declared.entry.Entry.{Entry}
 use Rattle.fk_print.specs.declared.event.Event.{Event}
 use Rattle.fk_print.specs.declared.line.Line.{Line}
@@ -27,6 +26,7 @@ use Rattle.fk_law.proofs.Leaving.{commit_is}
 use Rattle.fk_law.proofs.Settled.{session_of_its_push}
 use Rattle.fk_agree.specs.Records.{DropIsWritten, FinishIsWritten, PingIsWritten, PongIsWritten}
 use Rattle.fk_agree.proofs.Writing.{sessions_written}
+use Rattle.fk_base.proofs.Logic.{by_test}
 
 -- Pending commits are of their session. -----------------------------------------------------------------
 

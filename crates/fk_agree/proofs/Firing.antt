@@ -6,7 +6,6 @@ use Rattle.std.proofs.lemmas.Bool.Decides.{nat_tests}
 use Rattle.fk_tree.specs.Watch.{first_taken}
 use Rattle.fk_tree.specs.declared.change.Change.{Change}
 use Rattle.fk_tree.specs.declared.change.Touch.{Touch}
-use Rattle.fk_tree.proofs.Order.{by_test}
 use Rattle.fk_print.specs.declared.entry.Entry.{Entry}
 use Rattle.fk_print.specs.declared.op.Op.{Op}
 use Rattle.fk_print.specs.declared.op.Op.TheVariants as op
@@ -23,6 +22,7 @@ use Rattle.fk_law.proofs.Due.{due}
 use Rattle.fk_law_watch.proofs.Epochs.{contains_is, listed_has_fired}
 use Rattle.fk_law_watch.proofs.Listing.{AreUnique, fired_one, fires_none, fires_watch, has_is}
 use Rattle.fk_law_watch.proofs.SetWatches.{fires_once, sweep_leaves_none, sweep_of_set, watches_unique}
+use Rattle.fk_base.proofs.Logic.{by_test}
 
 -- Each fired watch stands once. -------------------------------------------------------------------------
 

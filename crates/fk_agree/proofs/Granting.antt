@@ -9,7 +9,6 @@ use Rattle.fk_tree.specs.Touch.{edited_paths}
 use Rattle.fk_tree.specs.Tree.{map_some}
 use Rattle.fk_tree.specs.View.{start_view}
 use Rattle.fk_tree.specs.declared.applied.Applied.{Applied}
-use Rattle.fk_tree.proofs.Order.{by_test}
 use Rattle.fk_tree.proofs.Looking.{same_flip}
 use Rattle.fk_print.specs.declared.entry.Entry.{Entry}
 use Rattle.fk_print.specs.declared.event.Event.{Event}
@@ -38,6 +37,7 @@ use Rattle.fk_law.proofs.Editing.{live_push_edits_what_it_locked}
 use Rattle.fk_law.proofs.Leaving.{commit_is}
 use Rattle.fk_law.proofs.Locking.{at_work_is_unreleased}
 use Rattle.fk_agree.specs.Records.{GrantIsWritten, LeavesRecords, NewTableStands, RecordsStay}
+use Rattle.fk_base.proofs.Logic.{by_test}
 
 -- At the start. -----------------------------------------------------------------------------------------
 

@@ -4,6 +4,7 @@ use Rattle.std.specs.List.{AllByRecursion}
 use Rattle.std.proofs.Common.{◌≡◌, ℕ, ◌+◌, ◌≤◌, ◌++◌, Bool, true, false, cond, List, [], ◌∷◌, refl, sym, ◌∙◌, ap, subst, arith, Option, Some, None}
 use Rattle.std.proofs.lemmas.Bool.{eq-eqb}
 use Rattle.std.proofs.lemmas.Bool.Decides.{nat_tests}
+use Rattle.std.proofs.lemmas.Option.{same_Some}
 use Rattle.fk_print.specs.declared.entry.Entry.{Entry}
 use Rattle.fk_print.specs.declared.op.Op.{Op}
 use Rattle.fk_print.specs.declared.op.Op.TheVariants as op
@@ -63,10 +64,7 @@ hold_head P [] k i e = absurd (none_some e)
   where
     none_some : None ≡ Some k → ⊥
     none_some e = grind arith
-hold_head P (x ∷ xs) k i e = subst (λ n. P n x.bytes) (some_same x.number k e) i.0
-  where
-    some_same : (a b : ℕ) → Some a ≡ Some b → a ≡ b
-    some_same a b f = cc
+hold_head P (x ∷ xs) k i e = subst (λ n. P n x.bytes) (same_Some x.number k e) i.0
 
 -- A session's lane. -------------------------------------------------------------------------------------
 
@@ -85,15 +83,13 @@ request_new p c e h bytes f = by_origin (sent_in c h e.op) refl f
     none_some : None ≡ Some bytes → ⊥
     none_some g = grind arith
 
-    some_same : (a b : List ℕ) → Some a ≡ Some b → b ≡ a
-    some_same a b g = cc
 
     by_request : (y : Origin) (r : Option Request) → sent_in c h e.op ≡ Some y → request_from p c (Some y) ≡ r → option_map (sent_text version.Two) (option_map (λ x. record { request = x; seen = seen_from (Some y) }) r) ≡ Some bytes → IsRequestText p c (sends_of c h + 1) (e ∷ h) bytes
     by_request y None a b g = absurd (none_some g)
     by_request y (Some r) a b g = record {
       request = r;
       requested = ap (request_from p c) here ∙ b;
-      text = some_same (sent_text version.Two (record { request = r; seen = seen_from (Some y) })) bytes g ∙ ap (λ o. sent_text version.Two (record { request = r; seen = seen_from o })) (sym here);
+      text = sym (same_Some (sent_text version.Two (record { request = r; seen = seen_from (Some y) })) bytes g) ∙ ap (λ o. sent_text version.Two (record { request = r; seen = seen_from o })) (sym here);
     }
       where
         here : origin_of c (sends_of c h + 1) (e ∷ h) ≡ Some y
@@ -145,9 +141,6 @@ push_on p t e h bytes l i = record { push = i.push; pushed = message_stays p t e
 
 push_new : (p : Plan) (e : Entry) (h : List Entry) (o : Op) (bytes : List ℕ) → e.op ≡ o → IsDue p h o → option_map (pushed_text version.Two) (push_message p h o) ≡ Some bytes → IsPushText p (pushes_of h + 1) (e ∷ h) bytes
 push_new p e h (op.Push n t) bytes q d f = by_message (push_message p h (op.Push n t)) refl f
-  where
-    some_same : (a b : List ℕ) → Some a ≡ Some b → b ≡ a
-    some_same a b g = cc
 
     none_some : None ≡ Some bytes → ⊥
     none_some g = grind arith
@@ -157,7 +150,7 @@ push_new p e h (op.Push n t) bytes q d f = by_message (push_message p h (op.Push
     by_message (Some x) a g = record {
       push = x;
       pushed = ap (λ m. or_else m (push_message_of p (pushes_of h + 1) h)) (its_message p (pushes_of h + 1) n h e.op (q ∙ ap (op.Push n) d.3) ∙ (ap (λ s. push_message p h (op.Push n s)) (sym d.3) ∙ a));
-      text = some_same (pushed_text version.Two x) bytes g;
+      text = sym (same_Some (pushed_text version.Two x) bytes g);
     }
 push_new p e h o bytes q d f = absurd (grind arith)
 
@@ -181,14 +174,12 @@ note_new : (p : Plan) (e : Entry) (h : List Entry) (o : Op) (bytes : List ℕ) �
 note_new p e h (op.Notify n t w) bytes q d f = record {
   note = x;
   noted = ap (λ o. or_else (note_in p (notes_of h + 1) h o) (note_of p (notes_of h + 1) h)) q ∙ ap (λ b. or_else (cond b (Some x) None) (note_of p (notes_of h + 1) h)) (its_own w d.1);
-  text = some_same (note_text version.Two (note_as x)) bytes f;
+  text = sym (same_Some (note_text version.Two (note_as x)) bytes f);
 }
   where
     x : teller.Note
     x = record { tx = t; fired = (swept_by p n h).fired }
 
-    some_same : (a b : List ℕ) → Some a ≡ Some b → b ≡ a
-    some_same a b g = cc
 
     its_own : (w : ℕ) → w ≡ notes_of h + 1 → (w == notes_of h + 1) ≡ true
     its_own w g = grind (arith, nat_tests)

@@ -3,7 +3,6 @@ use Rattle.std.specs.Prelude.{◌+◌, ◌-◌, ◌==◌, if◌then◌else◌}
 use Rattle.std.proofs.Common.{◌≡◌, ℕ, zero, suc, ◌≤◌, Bool, true, false, cond, List, [], ◌∷◌, refl, sym, ◌∙◌, ap, subst, arith, Option, Some, None}
 use Rattle.std.proofs.lemmas.Bool.Decides.{nat_tests}
 use Rattle.fk_base.specs.Path.{PathNames}
-use Rattle.fk_tree.proofs.Order.{by_test}
 use Rattle.fk_print.specs.declared.entry.Entry.{Entry}
 use Rattle.fk_print.specs.declared.op.Op.{Op}
 use Rattle.fk_settle.specs.Held as held
@@ -30,6 +29,7 @@ use Rattle.fk_agree.proofs.Locking.{holds_the_same, lock_is}
 use Rattle.fk_agree.proofs.Serving.{session_is, post_left, LeavesPost}
 use Rattle.fk_agree.proofs.Putting.{store_stays}
 use Rattle.fk_agree.proofs.Watching.{watches_stay}
+use Rattle.fk_base.proofs.Logic.{by_test}
 
 found_so : (h : List Entry) (q : PathNames) (o : Option Grant) → (held.passed_on q (lock_from h o)) ≡ passed_on q o
 found_so h q None = refl

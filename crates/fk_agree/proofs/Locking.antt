@@ -3,13 +3,13 @@ use Rattle.std.specs.Prelude.{◌==◌, ◌&&◌, not}
 use Rattle.std.proofs.Common.{◌≡◌, ℕ, Bool, true, false, cond, ◌||◌, List, refl, ◌∙◌, ap, arith, Option, Some, None, is_some}
 use Rattle.std.proofs.lemmas.Bool.Decides.{nat_tests}
 use Rattle.fk_base.specs.Path.{PathNames, is_root}
-use Rattle.fk_tree.proofs.Order.{by_test}
 use Rattle.fk_print.specs.declared.entry.Entry.{Entry}
 use Rattle.fk_store.specs.Locks as store
 use Rattle.fk_store.specs.Meaning.{lock_of, or_no_record}
 use Rattle.fk_stand.specs.Tables.{has_record, lock_after, lock_from, node_record, table_after}
 use Rattle.fk_spec.specs.Plan.{Plan}
 use Rattle.fk_spec.specs.Locks.{Grant, has_released, is_held_by, last_grant}
+use Rattle.fk_base.proofs.Logic.{by_test}
 
 -- a path without a record was never granted
 never_granted : (h : List Entry) (o : Option Grant) (b : Bool) → (b || is_some o) ≡ false → store.no_lock ≡ lock_from h o

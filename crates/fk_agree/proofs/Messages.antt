@@ -1,5 +1,6 @@
 -- Each push has a message, and it never changes.
 use Rattle.std.proofs.Common.{◌≡◌, ℕ, List, [], ◌∷◌, refl, sym, ◌∙◌, ap, subst, arith, Option, Some, None}
+use Rattle.std.proofs.lemmas.Option.{same_Some}
 use Rattle.fk_tree.specs.declared.request.Request.{Request}
 use Rattle.fk_print.specs.declared.entry.Entry.{Entry}
 use Rattle.fk_print.specs.declared.op.Op.TheVariants as op
@@ -60,10 +61,7 @@ has_step p t n c k e h None b l i w =
     let z = push_bound p t h w.push l.0 (subst (λ o. or_else o (push_of t h) ≡ Some w.push) b w.pushed) in
     let x = i (its_push_before p t n c k e h l z.1 z.2 w) in
     (x.0, or_other (push_message_of p t h) (messages.push_here p t h e.op) x.0 (no_message p t h e.op b) x.1)
-has_step p t n c k e h (Some u) b l i w = has_new p t n c k e h l (new_push t h e.op u b ∙ ap (λ z. op.Push z t) (ap (λ z. z.function) (some_same u w.push (subst (λ o. or_else o (push_of t h) ≡ Some w.push) b w.pushed)) ∙ w.function)) w
-  where
-    some_same : (a d : Push) → Some a ≡ Some d → a ≡ d
-    some_same a d i = cc
+has_step p t n c k e h (Some u) b l i w = has_new p t n c k e h l (new_push t h e.op u b ∙ ap (λ z. op.Push z t) (ap (λ z. z.function) (same_Some u w.push (subst (λ o. or_else o (push_of t h) ≡ Some w.push) b w.pushed)) ∙ w.function)) w
 
 pub push_has_its_message : PushHasItsMessage
 push_has_its_message p t n c k [] l w = absurd (no_push w.push w.pushed)

@@ -1,6 +1,5 @@
 -- The post at its start, where a line leaves it, and after a message or its removal.
 use Rattle.std.proofs.Common.{◌≡◌, ℕ, Bool, true, false, cond, List, [], ◌∷◌, length, refl, sym, ◌∙◌, ap, None}
-use Rattle.fk_tree.proofs.Order.{by_test}
 use Rattle.fk_print.specs.declared.entry.Entry.{Entry}
 use Rattle.fk_queue.specs.declared.lane.Lane.{Lane}
 use Rattle.fk_queue.specs.Lanes.{is_lane, same_lane}
@@ -10,6 +9,7 @@ use Rattle.fk_queue.proofs.Standing.{same_lane_is}
 use Rattle.fk_stand.specs.Posts.{lane_after, lane_step, post_after, removes}
 use Rattle.fk_spec.specs.Plan.{Plan}
 use Rattle.fk_agree.specs.Letters.{HeadIsPopped, LeavesLane, LetterIsPushed, NewPostStands, PostStays}
+use Rattle.fk_base.proofs.Logic.{by_test}
 
 new_lane : (p : Plan) (l : Lane) → empty_lane ≡ (post_after p [] 0).lanes l
 new_lane p l = by_test (is_lane (length p.asks) l) (λ b. empty_lane ≡ cond b empty_lane empty_lane) (λ _. refl) (λ _. refl)

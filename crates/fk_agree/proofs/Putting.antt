@@ -3,12 +3,13 @@ use Rattle.std.specs.Prelude.{◌==◌}
 use Rattle.std.proofs.Common.{◌≡◌, ℕ, zero, suc, inl, inr, ◌≤◌, ◌<◌, Bool, true, false, cond, List, [], ◌∷◌, max, refl, sym, ◌∙◌, ap, subst, arith, Some}
 use Rattle.std.proofs.lemmas.Bool.{false≢true}
 use Rattle.std.proofs.lemmas.Bool.Decides.{nat_tests}
+use Rattle.std.proofs.lemmas.Option.{same_Some}
 use Rattle.fk_base.specs.Path.{PathNames, is_root, same_path}
 use Rattle.fk_tree.specs.Edit.{edited, effects, view_after}
 use Rattle.fk_tree.specs.Sorted.{has_path}
 use Rattle.fk_tree.specs.Touch.{edited_paths, edits_at}
 use Rattle.fk_tree.specs.declared.applied.Applied.{Applied}
-use Rattle.fk_tree.proofs.Order.{by_test, same_path_is}
+use Rattle.fk_tree.proofs.Order.{same_path_is}
 use Rattle.fk_tree.proofs.Looking.{same_flip}
 use Rattle.fk_print.specs.declared.entry.Entry.{Entry}
 use Rattle.fk_print.specs.declared.event.Event.{Event}
@@ -37,6 +38,7 @@ use Rattle.fk_law.proofs.Sending.{was_committed}
 use Rattle.fk_law.proofs.Starting.{leader_task}
 use Rattle.fk_law.proofs.Stamping.{all_found, beyond_not, none_between, published_are_stamped, same_between}
 use Rattle.fk_agree.specs.Stored.{LeavesStore, NewStoreStands, PublicationIsWritten, PutIsWritten, StoreStays}
+use Rattle.fk_base.proofs.Logic.{by_test}
 
 -- A put. ------------------------------------------------------------------------------------------------
 
@@ -57,12 +59,9 @@ same_before p n t s h q l d u = same_between (stamp_of q h) t q (committed_of p 
 
 number_step : (t : ℕ) (a b : Applied) (done : List Applied) → (stored.applied_as t done ≡ Some a → a.tx ≡ t) → stored.applied_as t (b ∷ done) ≡ Some a → a.tx ≡ t
 number_step t a b done i e = by_number (b.tx == t) refl
-  where
-    some_same : (x y : Applied) → Some x ≡ Some y → x ≡ y
-    some_same x y f = cc
 
     by_number : (z : Bool) → (b.tx == t) ≡ z → a.tx ≡ t
-    by_number true f = let g : b.tx ≡ t = grind (arith, nat_tests) in sym (ap (λ x. x.tx) (some_same b a (sym (ap (λ z. cond z (Some b) (stored.applied_as t done)) f) ∙ e))) ∙ g
+    by_number true f = let g : b.tx ≡ t = grind (arith, nat_tests) in sym (ap (λ x. x.tx) (same_Some b a (sym (ap (λ z. cond z (Some b) (stored.applied_as t done)) f) ∙ e))) ∙ g
     by_number false f = i (sym (ap (λ z. cond z (Some b) (stored.applied_as t done)) f) ∙ e)
 
 -- a commit has its number

@@ -8,7 +8,6 @@ use Rattle.fk_base.specs.declared.code.Code.{Code}
 use Rattle.fk_tree.specs.Sorted.{has_path}
 use Rattle.fk_tree.specs.Tree.{map_some}
 use Rattle.fk_tree.specs.declared.request.Request.{Request}
-use Rattle.fk_tree.proofs.Order.{by_test}
 use Rattle.fk_print.specs.declared.entry.Entry.{Entry}
 use Rattle.fk_print.specs.declared.event.Event.{Event}
 use Rattle.fk_print.specs.declared.line.Line.{Line}
@@ -43,9 +42,9 @@ use Rattle.fk_law.proofs.Recording.{records_are_of_its_grants}
 use Rattle.fk_law.proofs.Refusing.{own_each}
 use Rattle.fk_law.proofs.Standing.{OnStanding, standing_step}
 use Rattle.fk_law.proofs.Starting.{follower_task}
-use Rattle.fk_law.proofs.Numbers.{itself}
 use Rattle.fk_agree.specs.Records.{ExpiredIsGrantedNothing, LossIsWritten, RefusalIsWritten}
 use Rattle.fk_agree.proofs.Writing.{arm_stays, done_append, done_is_written, faults_stay, no_releases_written, nodes_written, records_append, releases_leave_done, releases_leave_sessions, releases_written, sessions_append, sessions_written}
+use Rattle.fk_base.proofs.Logic.{by_test, itself}
 
 -- A follower that expires its request was granted nothing. ----------------------------------------------
 

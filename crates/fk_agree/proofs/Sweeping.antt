@@ -10,7 +10,6 @@ use Rattle.fk_tree.specs.Sorted.{is_below, rises, sorted}
 use Rattle.fk_tree.specs.Watch.{first_taken}
 use Rattle.fk_tree.specs.declared.change.Change.{Change}
 use Rattle.fk_tree.specs.declared.change.Touch.{Touch}
-use Rattle.fk_tree.proofs.Order.{and_left, and_right, by_test}
 use Rattle.fk_tree.proofs.Rising.{has_with, rises_with, same_rising}
 use Rattle.fk_print.specs.declared.entry.Entry.{Entry}
 use Rattle.fk_print.specs.declared.op.Op.{Op}
@@ -33,6 +32,7 @@ use Rattle.fk_law_watch.proofs.Registering.{watches_are_registered}
 use Rattle.fk_law_watch.proofs.SetWatches.{set_cases}
 use Rattle.fk_agree.specs.Watched.{EpochIsTheRules, FiredAreTheRules}
 use Rattle.fk_agree.proofs.Firing.{FireOnce, fired_once}
+use Rattle.fk_base.proofs.Logic.{and_left, and_right, by_test}
 
 -- Set watches stand in rising number. -------------------------------------------------------------------
 

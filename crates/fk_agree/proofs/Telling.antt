@@ -3,6 +3,7 @@ use Rattle.std.specs.Prelude.{◌==◌}
 use Rattle.std.proofs.Common.{◌≡◌, ℕ, Bool, true, false, List, [], ◌∷◌, refl, sym, ◌∙◌, ap, subst, arith, Option, Some, None}
 use Rattle.std.proofs.lemmas.Bool.{false≢true}
 use Rattle.std.proofs.lemmas.Bool.Decides.{nat_tests}
+use Rattle.std.proofs.lemmas.Option.{same_Some}
 use Rattle.fk_print.specs.declared.entry.Entry.{Entry}
 use Rattle.fk_print.specs.declared.op.Op.{Op}
 use Rattle.fk_print.specs.declared.op.Op.TheVariants as op
@@ -77,10 +78,7 @@ tells_step p t n c k e h x None b l i w m =
     let z = push_bound p t h w.push l.0 (subst (λ o. or_else o (push_of t h) ≡ Some w.push) b w.pushed) in
     let y = its_push_before p t n c k e h l z.1 z.2 w in
     tells_on p t n c k e h x l y (i y (subst (λ o. or_else o (push_message_of p t h) ≡ Some x) (no_message p t h e.op b) m))
-tells_step p t n c k e h x (Some u) b l i w m = tells_new p t n c k e h x l (new_push t h e.op u b ∙ ap (λ z. op.Push z t) (ap (λ z. z.function) (some_same u w.push (subst (λ o. or_else o (push_of t h) ≡ Some w.push) b w.pushed)) ∙ w.function)) w m
-  where
-    some_same : (a d : Push) → Some a ≡ Some d → a ≡ d
-    some_same a d i = cc
+tells_step p t n c k e h x (Some u) b l i w m = tells_new p t n c k e h x l (new_push t h e.op u b ∙ ap (λ z. op.Push z t) (ap (λ z. z.function) (same_Some u w.push (subst (λ o. or_else o (push_of t h) ≡ Some w.push) b w.pushed)) ∙ w.function)) w m
 
 pub message_tells_its_push : MessageTellsItsPush
 message_tells_its_push p t n c k [] x l w m = absurd (grind arith)

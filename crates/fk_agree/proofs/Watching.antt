@@ -3,9 +3,9 @@ use Rattle.std.specs.Prelude.{◌==◌, max, option_map, is_some}
 use Rattle.std.proofs.Common.{◌≡◌, ℕ, ◌+◌, ◌≤◌, ◌<◌, inl, inr, Bool, true, false, cond, List, [], ◌∷◌, ◌++◌, refl, sym, ◌∙◌, ap, subst, arith, Option, Some, None}
 use Rattle.std.proofs.lemmas.Bool.{false≢true}
 use Rattle.std.proofs.lemmas.Bool.Decides.{nat_tests}
+use Rattle.std.proofs.lemmas.Option.{same_Some}
 use Rattle.fk_base.specs.Path.{PathNames}
 use Rattle.fk_tree.specs.Watch.{has_touch}
-use Rattle.fk_tree.proofs.Order.{by_test}
 use Rattle.fk_print.specs.declared.entry.Entry.{Entry}
 use Rattle.fk_print.specs.declared.event.Event.{Event}
 use Rattle.fk_print.specs.declared.line.Line.{Line}
@@ -32,6 +32,7 @@ use Rattle.fk_law_watch.proofs.Registering.{watches_are_registered}
 use Rattle.fk_law_watch.proofs.SetWatches.{IsNewWatch, or_none, set_cases, set_or_fired_were_given, watches_unique}
 use Rattle.fk_agree.specs.Watched.{LeavesWatches, NewWatchesStand, RegistrationIsWritten, SweepIsWritten, ToldIsWritten, WatchesStay}
 use Rattle.fk_agree.proofs.Firing.{fired_as_before, fired_once, fires_as, fires_no_more, firing_append, stays_as, told_with}
+use Rattle.fk_base.proofs.Logic.{by_test}
 
 -- At the start, and where nothing changes it. -----------------------------------------------------------
 
@@ -202,13 +203,10 @@ new_watch p v ls c i id faults h w m y = ap (λ x. register x (watch_as w) id (w
     }
 
 set_watch : (p : Plan) (v : Event) (ls : List Line) (c i id faults : ℕ) (h : List Entry) (w : Watch) → IsHistory p h → IsRegistration p h c i id → watch_asked id c (asked p c i) ≡ Some w → registered (watch_as w) id (watches_after p h faults) ≡ watches_after p (setting v ls c i id h) faults
-set_watch p v ls c i id faults h w l r e = subst (λ x. registered (watch_as x) id (watches_after p h faults) ≡ watches_after p (setting v ls c i id h) faults) (some_same r.watch w (sym r.wanted ∙ e)) (elim (set_cases p h c i id r) [
+set_watch p v ls c i id faults h w l r e = subst (λ x. registered (watch_as x) id (watches_after p h faults) ≡ watches_after p (setting v ls c i id h) faults) (same_Some r.watch w (sym r.wanted ∙ e)) (elim (set_cases p h c i id r) [
   | inl x ↦ old_watch p v ls c i id faults h (watch_as r.watch) l x.0 x.1
   | inr y ↦ new_watch p v ls c i id faults h r.watch r.its_id y
 ])
-  where
-    some_same : (a b : Watch) → Some a ≡ Some b → a ≡ b
-    some_same a b f = cc
 
 pub registration_is_written : RegistrationIsWritten
 registration_is_written p c i id faults e h w l g a =

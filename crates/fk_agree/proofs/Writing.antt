@@ -7,7 +7,6 @@ use Rattle.fk_tree.specs.Sorted.{has_path}
 use Rattle.fk_tree.specs.Touch.{edit_paths}
 use Rattle.fk_tree.specs.Tree.{map_some}
 use Rattle.fk_tree.specs.declared.edit.Edit.{Edit}
-use Rattle.fk_tree.proofs.Order.{by_test}
 use Rattle.fk_store.specs.Locks.{released}
 use Rattle.fk_store.specs.Meaning.{Meaning}
 use Rattle.fk_store.specs.Writes.{all_written, done_written, change_record, records_written, record_after, release_record, session_after, session_written, written}
@@ -15,6 +14,7 @@ use Rattle.fk_store.specs.declared.node_record.NodeRecord.{NodeRecord}
 use Rattle.fk_store.specs.declared.session_record.SessionRecord.{SessionRecord}
 use Rattle.fk_store.specs.declared.write.Write.{Write}
 use Rattle.fk_settle.specs.Transaction.{change_writes, release_writes}
+use Rattle.fk_base.proofs.Logic.{by_test}
 
 -- All writes of a transaction, seen at one place. -------------------------------------------------------
 

@@ -1,5 +1,5 @@
 -- The operation that a client makes, and what it comes to, whatever its message tells beside what the rules know.
-use Rattle.std.proofs.Common.{◌≡◌, ℕ, true, false, cond, List, ◌∷◌, refl, sym, ◌∙◌, ap, subst, Option, Some, None}
+use Rattle.std.proofs.Common.{◌≡◌, ℕ, true, false, List, ◌∷◌, refl, sym, ◌∙◌, ap, subst, Option, Some, None}
 use Rattle.std.proofs.lemmas.Option.{same_Some, none-some}
 use Rattle.fk_print.specs.declared.entry.Entry.{Entry}
 use Rattle.fk_print.specs.declared.op.Op.{Op}
@@ -18,7 +18,7 @@ use Rattle.fk_stand.specs.Tables.{table_after}
 use Rattle.fk_spec.specs.Plan.{Plan, is_client}
 use Rattle.fk_spec.specs.Settling.{Outcome, Committed, Refused, Passed}
 use Rattle.fk_spec.specs.Lanes.{Message, Done, Kept, inbox_of}
-use Rattle.fk_spec.specs.Client.{Client, Sent, acted, acted_by, by_result, client_in, client_of, client_op, failed_op, flushed, kept_outcome, client_by, Settled, op_of_client, settled_as}
+use Rattle.fk_spec.specs.Client.{Client, Sent, acted, acted_by, by_result, client_in, client_of, client_op, failed_op, flushed, kept_outcome, Settled, op_of_client, settled_as}
 use Rattle.fk_spec.specs.Sight.{first_message, sight_of}
 use Rattle.fk_spec.specs.Next.{IsHistory}
 use Rattle.fk_law.specs.Due.{IsDue}
@@ -28,11 +28,11 @@ use Rattle.fk_client.specs.Operation.{calm_op, failed_if, is_armed, step_op}
 use Rattle.fk_client.specs.Sighting.{outcome_told}
 use Rattle.fk_client.specs.declared.unanswered.Unanswered.{Unanswered}
 use Rattle.fk_client.proofs.Same.{comes_to_the_same, makes_the_same}
-use Rattle.fk_law.proofs.Numbers.{itself}
 use Rattle.fk_agree_client.specs.Inbox.{FirstTells}
 use Rattle.fk_agree_client.specs.Standing.{standing}
 use Rattle.fk_agree_client.proofs.Inbox.{mapped}
 use Rattle.fk_agree_client.proofs.Reading.{sights_agree, told_sight}
+use Rattle.fk_law_client.proofs.Kept.{own_client}
 
 -- The operation. -----------------------------------------------------------------------------------------
 
@@ -108,12 +108,9 @@ told_fits p c h told (op.TakeLost d k) y i e r =
     ap (λ z. acted by_result (told_sight p c h told) z (op.TakeLost d k) y) (kept_known p k (Passed i.0) h i.1 told (subst (λ ms. FirstTells p h ms told) g r) ∙ sym (ap (λ ms. settled_as (kept_outcome (first_message ms))) g))
 told_fits p c h told o y i e r = refl
 
-pub client_after : (p : Plan) (c : ℕ) (e : Entry) (h : List Entry) → client_in e.op ≡ Some c → client_of p c (e ∷ h) ≡ flushed by_result (acted_by (sight_of p c h) e.op (client_of p c h))
-client_after p c e h q = ap (λ o. client_by (sight_of p c h) o e.op (client_of p c h)) q ∙ ap (λ b. cond b (flushed by_result (acted_by (sight_of p c h) e.op (client_of p c h))) (client_of p c h)) (itself c)
-
 pub known_after : (p : Plan) (c : ℕ) (e : Entry) (h : List Entry) (told : Option Tell) (x : Client Unanswered) → client_in e.op ≡ Some c → IsDue p h e.op → client_known x ≡ client_of p c h → FirstTells p h (inbox_of p c h) told
     → client_known (flushed by_outcome (acted by_outcome (told_sight p c h told) (outcome_told told) e.op x)) ≡ client_of p c (e ∷ h)
 known_after p c e h told x q d k r =
     comes_to_the_same (told_sight p c h told) (outcome_told told) e.op x
     ∙ (ap (λ y. flushed by_result (acted by_result (told_sight p c h told) (told_known (outcome_told told)) e.op y)) k
-    ∙ (ap (flushed by_result) (told_fits p c h told e.op (client_of p c h) d q r) ∙ sym (client_after p c e h q)))
+    ∙ (ap (flushed by_result) (told_fits p c h told e.op (client_of p c h) d q r) ∙ sym (own_client p c e h q)))

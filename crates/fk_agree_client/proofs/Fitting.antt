@@ -1,7 +1,6 @@
 -- When a client has nothing to do, and what its operation needs.
 use Rattle.std.specs.Prelude.{nat_lt, ◌&&◌, not, is_none, is_some, if◌then◌else◌, ◌-◌, ◌^◌}
-use Rattle.std.proofs.Common.{◌≡◌, ℕ, ◌+◌, ◌<◌, Bool, true, false, List, [], ◌∷◌, length, refl, sym, ◌∙◌, ap, subst, arith, Option, Some, None}
-use Rattle.fk_tree.proofs.Order.{by_test}
+use Rattle.std.proofs.Common.{◌≡◌, ℕ, ◌+◌, ◌<◌, Bool, true, false, List, [], ◌∷◌, refl, sym, ◌∙◌, ap, subst, arith, Option, Some, None}
 use Rattle.fk_tree.specs.Ask.{path_asked}
 use Rattle.fk_tree.specs.Watch.{kind_asked}
 use Rattle.fk_tree.specs.declared.request.Request.{Request}
@@ -9,14 +8,12 @@ use Rattle.fk_print.specs.declared.entry.Entry.{Entry}
 use Rattle.fk_print.specs.declared.op.Op.{Op}
 use Rattle.fk_print.specs.declared.op.Op.TheVariants as op
 use Rattle.fk_queue.specs.Lanes.{is_session}
-use Rattle.fk_queue.specs.declared.lane.Lane.{Lane}
 use Rattle.fk_queue.specs.declared.lane.Lane.TheVariants as lane
 use Rattle.fk_queue.specs.declared.letter.Letter.{Letter}
 use Rattle.fk_wire.specs.Limits.{IsLimitedRequest}
 use Rattle.fk_base.specs.Limits.{IsNumber}
 use Rattle.fk_wire.specs.declared.version.Version.TheVariants as version
 use Rattle.fk_stand.specs.Posts.{lane_after, post_after}
-use Rattle.fk_stand.proofs.Counting.{lanes_are_bounded}
 use Rattle.fk_spec.specs.Plan.{Plan, Ask, Want, Unfit, Writes, Reads, asks_in, is_client}
 use Rattle.fk_spec.specs.Start.{request_in, written}
 use Rattle.fk_spec.specs.Settling.{Outcome, Committed, Refused, Passed}
@@ -43,6 +40,8 @@ use Rattle.fk_agree_client.specs.Inbox.{AllSay, CanBeSaid}
 use Rattle.fk_agree_client.specs.Serving.{ClientIsFit, ClientIsIdle}
 use Rattle.fk_agree_client.specs.Standing.{standing}
 use Rattle.fk_agree_client.proofs.Inbox.{inbox_says_its_messages}
+use Rattle.fk_base.proofs.Logic.{by_test}
+use Rattle.fk_agree.proofs.Bounds.{lane_low}
 
 -- What is no operation. ----------------------------------------------------------------------------------
 
@@ -132,16 +131,13 @@ readable_head p h [] ms i k = tt
 readable_head p h (x ∷ xs) [] i k = absurd i
 readable_head p h (x ∷ xs) (m ∷ ms) i k = (i.0.tell, (k.0 i.0.tell i.0.told, (version.Two, tt, i.0.text)))
 
-given_few : (p : Plan) (l : Lane) (h : List Entry) → length h < 2 ^ 62 → (lane_after p l h).given < 2 ^ 63 - 1
-given_few p l h b = let a = lanes_are_bounded p l h in omega (arith, a, b)
-
 pub client_is_fit : ClientIsFit
 client_is_fit p c h m t q u w v l b i a k x s z = record {
   busy = z;
   table = ap (λ y. is_some (t.sessions y.session)) x.is ∙ ap is_some (session_there p c h t s.table i);
   post = (λ j. is_session ((ap (λ y. y.sessions) s.post) j) ((ap (λ y. y.session) x.is) j)) ∙ i;
   inbox = subst (λ y. IsReadable (q.lanes (lane.Inbox y)).waiting) (sym (ap (λ y. y.session) x.is)) (subst (λ y. IsReadable y.waiting) (sym (lane_is p h q (lane.Inbox c) s.post i)) (readable_head p h (lane_after p (lane.Inbox c) h).waiting (inbox_of p c h) (inbox_says_its_messages p c h l) k));
-  sends = subst (λ y. (q.lanes (lane.Session y)).given < 2 ^ 63 - 1) (sym (ap (λ y. y.session) x.is)) (subst (λ y. y.given < 2 ^ 63 - 1) (sym (lane_is p h q (lane.Session c) s.post i)) (given_few p (lane.Session c) h b));
+  sends = subst (λ y. (q.lanes (lane.Session y)).given < 2 ^ 63 - 1) (sym (ap (λ y. y.session) x.is)) (subst (λ y. y.given < 2 ^ 63 - 1) (sym (lane_is p h q (lane.Session c) s.post i)) (lane_low p (lane.Session c) h b));
   watches = subst (λ y. y.given < 2 ^ 63 - 1) (sym s.watches) (let g = given_are_bounded p h l in omega (arith, g, b));
   seen = subst (λ y. IsNumber y.seen) (sym x.is) (let e = seen_published p c h v l in let f = mark_pushed p h l in let g = pushes_are_bounded h in omega (arith, e, f, g, b));
   request = subst (λ y. IsLimitedAsk (next_ask y)) (sym x.is) (limited_ask (next_ask (standing p c h x.client)) (λ r e. a (x.client.begun + 1) r e));

@@ -5,7 +5,7 @@ use Rattle.std.proofs.lemmas.Bool.{false≢true, eqb-true}
 use Rattle.std.proofs.lemmas.Bool.Decides.{nat_tests}
 use Rattle.std.proofs.lemmas.Option.{same_Some, none-some}
 use Rattle.fk_base.specs.Path.{PathNames, same_path}
-use Rattle.fk_tree.proofs.Order.{and_left, and_right, by_test, same_path_is, same_path_self}
+use Rattle.fk_tree.proofs.Order.{same_path_is, same_path_self}
 use Rattle.fk_tree.specs.Watch.{same_kind}
 use Rattle.fk_tree.specs.declared.change.Kind.{Kind}
 use Rattle.fk_tree.specs.declared.change.Kind.TheVariants as kind
@@ -23,6 +23,7 @@ use Rattle.fk_law_watch.proofs.Listing.{AreUnique, is_of, set_number_has}
 use Rattle.fk_law_watch.proofs.SetWatches.{set_or_fired_were_given, set_watches_differ, watches_unique}
 use Rattle.fk_client.specs.Registering.{is_watch, watch_number}
 use Rattle.fk_client.specs.Registering as client
+use Rattle.fk_base.proofs.Logic.{and_left, and_right, by_test}
 
 -- the watch of a client, a path and a kind, as the table has it
 abbrev watch_for : ℕ → PathNames → Kind → table.Watch

@@ -2,7 +2,6 @@
 use Rattle.std.specs.Prelude.{◌++◌}
 use Rattle.std.proofs.Common.{◌≡◌, ℕ, cond, List, [], ◌∷◌, refl, sym, ◌∙◌, ap, subst, Option, Some, None}
 use Rattle.std.proofs.lemmas.Option.{same_Some}
-use Rattle.fk_tree.proofs.Order.{by_test}
 use Rattle.fk_print.specs.declared.entry.Entry.{Entry}
 use Rattle.fk_print.specs.declared.op.Op.{Op}
 use Rattle.fk_print.specs.declared.op.Op.TheVariants as op
@@ -23,6 +22,7 @@ use Rattle.fk_client.specs.declared.unanswered.Unanswered.{Unanswered}
 use Rattle.fk_agree_client.specs.Inbox.{FirstTells}
 use Rattle.fk_agree_client.specs.Standing.{AllTell, TellsItsCommit}
 use Rattle.fk_agree_client.proofs.Reading.{told_firing, told_sight}
+use Rattle.fk_base.proofs.Logic.{by_test}
 
 -- One command. -------------------------------------------------------------------------------------------
 

@@ -5,7 +5,6 @@ use Rattle.std.proofs.lemmas.Bool.Decides.{nat_tests}
 use Rattle.std.proofs.lemmas.Option.{same_Some, none-some}
 use Rattle.fk_base.specs.Path.{PathNames}
 use Rattle.fk_base.specs.declared.code.Code.TheVariants as code
-use Rattle.fk_tree.proofs.Order.{and_left, by_test}
 use Rattle.fk_tree.specs.Apply.{reply_of, reply_to}
 use Rattle.fk_tree.specs.declared.applied.Applied.{Applied}
 use Rattle.fk_tree.specs.declared.applied.Made.{Made}
@@ -49,6 +48,7 @@ use Rattle.fk_agree_client.specs.Inbox.{FirstTells}
 use Rattle.fk_agree_client.specs.Standing.{AllTell, TellsItsCommit}
 use Rattle.fk_agree_client.proofs.Inbox.{mapped}
 use Rattle.fk_agree_client.proofs.Reading.{told_sight}
+use Rattle.fk_base.proofs.Logic.{and_left, by_test}
 
 -- It stays. ----------------------------------------------------------------------------------------------
 

@@ -1,11 +1,10 @@
 -- What a drain asks of an engine is what the rules say.
 use Rattle.std.specs.Prelude.{◌==◌, ◌&&◌, ◌||◌, nat_le, not, if◌then◌else◌, ◌<◌, ◌^◌, is_some}
 use Rattle.std.proofs.Common.{◌≡◌, ℕ, zero, suc, ◌+◌, ◌≤◌, ◌++◌, Bool, true, false, List, [], ◌∷◌, length, refl, sym, ◌∙◌, ap, subst, arith, Option, Some, None}
-use Rattle.std.specs.Ordering.{is_lt, nat_cmp}
+use Rattle.std.specs.Ordering.{nat_cmp}
 use Rattle.std.proofs.lemmas.Bool.Decides.{nat_tests}
 use Rattle.std.proofs.lemmas.Option.{none-some}
 use Rattle.fk_tree.specs.Sorted.{is_below}
-use Rattle.fk_tree.proofs.Order.{and_left, and_right}
 use Rattle.fk_print.specs.declared.entry.Entry.{Entry}
 use Rattle.fk_print.specs.declared.event.Event.TheVariants as event
 use Rattle.fk_print.specs.declared.op.Op.{Op}
@@ -48,6 +47,8 @@ use Rattle.fk_agree_engine.specs.World.{IsWorld, StandsAs}
 use Rattle.fk_agree_engine.proofs.Plain.{is_in_flight, leader_head_is, session_head_is, watch_head_is}
 use Rattle.fk_agree_engine.proofs.Steps.{beat_steps, follower_steps, leader_steps, teller_steps}
 use Rattle.fk_agree_engine.proofs.Turning.{client_there}
+use Rattle.fk_base.proofs.Logic.{and_left, and_right}
+use Rattle.fk_engine.proofs.Flying.{below_pushed}
 
 -- The functions in flight. -------------------------------------------------------------------------------
 
@@ -63,18 +64,11 @@ has_end : (n k : ℕ) (ns : List ℕ) → has_id n (ns ++ k ∷ []) ≡ ((n == k
 has_end n k [] = grind (arith, nat_tests)
 has_end n k (m ∷ ns) = let rest = has_end n k ns in grind (arith, nat_tests, rest)
 
-below_end : (m k : ℕ) (ns : List ℕ) → m < k → is_below nat_cmp m ns ≡ true → is_below nat_cmp m (ns ++ k ∷ []) ≡ true
-below_end m k [] b i = grind (arith, nat_tests)
-below_end m k (n ∷ ns) b i =
-    let first : is_lt (nat_cmp m n) ≡ true = and_left (is_lt (nat_cmp m n)) (is_below nat_cmp m ns) i in
-    let rest : is_below nat_cmp m (ns ++ k ∷ []) ≡ true = below_end m k ns b (and_right (is_lt (nat_cmp m n)) (is_below nat_cmp m ns) i) in
-    rw first rest
-
 rises_end : (k : ℕ) (ns : List ℕ) → UpTo k ns → ids_rise ns ≡ true → ids_rise (ns ++ suc k ∷ []) ≡ true
 rises_end k [] i r = refl
 rises_end k (n ∷ ns) i r =
     let low : n ≤ k = i.0 in
-    let first : is_below nat_cmp n (ns ++ suc k ∷ []) ≡ true = below_end n (suc k) ns (omega (arith, low)) (and_left (is_below nat_cmp n ns) (ids_rise ns) r) in
+    let first : is_below nat_cmp n (ns ++ suc k ∷ []) ≡ true = below_pushed n (suc k) ns (omega (arith, low)) (and_left (is_below nat_cmp n ns) (ids_rise ns) r) in
     let rest : ids_rise (ns ++ suc k ∷ []) ≡ true = rises_end k ns i.1 (and_right (is_below nat_cmp n ns) (ids_rise ns) r) in
     rw first rest
 

@@ -1,11 +1,9 @@
 -- What an event needs of an engine holds; a new engine stands; a deployment's plan is within limits.
-use Rattle.std.specs.Prelude.{◌==◌, ◌^◌, if◌then◌else◌}
-use Rattle.std.proofs.Common.{◌≡◌, ℕ, ◌+◌, ◌<◌, ◌≤◌, Bool, true, false, List, [], ◌∷◌, length, refl, sym, ◌∙◌, ap, subst, arith, Option, Some, None}
+use Rattle.std.specs.Prelude.{◌^◌}
+use Rattle.std.proofs.Common.{◌≡◌, ℕ, ◌<◌, ◌≤◌, true, List, [], ◌∷◌, length, refl, sym, ◌∙◌, ap, subst, arith, Option, Some, None}
 use Rattle.std.proofs.lemmas.Option.{none-some}
 use Rattle.fk_print.specs.declared.entry.Entry.{Entry}
 use Rattle.fk_print.specs.declared.event.Event.TheVariants as event
-use Rattle.fk_print.specs.declared.op.Op.{Op}
-use Rattle.fk_print.specs.declared.op.Op.TheVariants as op
 use Rattle.fk_queue.specs.Lanes.{is_session}
 use Rattle.fk_queue.specs.Letters.{first_number, head_bytes}
 use Rattle.fk_queue.specs.declared.lane.Lane.TheVariants as lane
@@ -17,15 +15,14 @@ use Rattle.fk_wire.specs.SentText.{IsSentText}
 use Rattle.fk_wire.specs.declared.version.Version.TheVariants as version
 use Rattle.fk_stand.specs.Posts.{lane_after}
 use Rattle.fk_spec.specs.Plan.{Plan, is_client, nth, plan_of}
-use Rattle.fk_spec.specs.Start.{Origin, Evicted, origin_here, origin_of, seen_from, seen_with, sent_in, when}
+use Rattle.fk_spec.specs.Start.{origin_of, seen_with, sent_in}
 use Rattle.fk_spec.specs.Start as start
-use Rattle.fk_spec.specs.Shown.{seen_by}
 use Rattle.fk_spec.specs.Next.{IsHistory}
 use Rattle.fk_limits.proofs.Deployments.{asks_are_limited, requests_are_readable}
 use Rattle.fk_law_watch.specs.FirstNumbers.{ReadsAreReads}
 use Rattle.fk_law_watch.proofs.Counting.{pushes_are_bounded, starts_are_bounded}
 use Rattle.fk_law_watch.proofs.FirstNumbers.{deployments_read_by_reads}
-use Rattle.fk_law_client.proofs.Pushed.{mark_pushed}
+use Rattle.fk_law_client.proofs.Pushed.{mark_pushed, origin_up, sent_up}
 use Rattle.fk_law_client.proofs.Seen.{seen_published}
 use Rattle.fk_client.specs.Meaning as client
 use Rattle.fk_agree.proofs.Counting.{heads_are_the_rules}
@@ -142,27 +139,6 @@ new_engine_stands p ms a b = record {
 
 -- A deployment. ------------------------------------------------------------------------------------------
 
-kept_short : (n k m : ℕ) (s old : Option Origin) → seen_from s ≤ m → seen_from old ≤ m → seen_from (origin_here n k s old) ≤ m
-kept_short n k m None old a b = b
-kept_short n k m (Some x) old a b = by_number (n + 1 == k)
-  where
-    by_number : (z : Bool) → seen_from (if z then Some x else old) ≤ m
-    by_number true = a
-    by_number false = b
-
-sent_short : (c m : ℕ) (h : List Entry) (o : Op) → seen_by c h ≤ m → seen_from (sent_in c h o) ≤ m
-sent_short c m h (op.Send s j k) a = by_client (s == c)
-  where
-    by_client : (z : Bool) → seen_from (when z (start.Sent j (seen_by c h))) ≤ m
-    by_client true = a
-    by_client false = omega arith
-sent_short c m h (op.Evict n k) a = by_client (start.probes_session c (start.task_of n h))
-  where
-    by_client : (z : Bool) → seen_from (when z Evicted) ≤ m
-    by_client true = omega arith
-    by_client false = omega arith
-sent_short c m h o a = omega arith
-
 -- what a client had seen when it sent a message is at most the length of the history
 seen_short : (p : Plan) (c k : ℕ) (h : List Entry) → ReadsAreReads p → IsHistory p h → seen_with c k h ≤ length h
 seen_short p c k [] v l = omega arith
@@ -171,7 +147,7 @@ seen_short p c k (e ∷ h) v l =
     let b = mark_pushed p h l.0 in
     let g = pushes_are_bounded h in
     let i = seen_short p c k h v l.0 in
-    let j = kept_short (start.sends_of c h) k (length h) (sent_in c h e.op) (origin_of c k h) (sent_short c (length h) h e.op (omega (arith, a, b, g))) i in
+    let j = origin_up (start.sends_of c h) k (length h) (sent_in c h e.op) (origin_of c k h) (sent_up c (length h) h e.op (omega (arith, a, b, g))) i in
     omega (arith, j)
 
 pub deployments_are_within_limits : DeploymentsAreWithinLimits

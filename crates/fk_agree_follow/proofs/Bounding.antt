@@ -2,6 +2,7 @@
 use Rattle.std.specs.Prelude.{◌==◌, ◌&&◌, max}
 use Rattle.std.proofs.Common.{◌≡◌, ℕ, ◌+◌, ◌≤◌, ◌++◌, Bool, true, false, cond, List, [], ◌∷◌, length, refl, sym, ◌∙◌, ap, subst, arith, Option, Some, None}
 use Rattle.std.proofs.lemmas.Bool.{eqb-true}
+use Rattle.std.proofs.lemmas.Option.{same_Some}
 use Rattle.fk_base.specs.Path.{PathNames, same_path}
 use Rattle.fk_base.specs.declared.code.Code.{Code}
 use Rattle.fk_tree.specs.Check.{Refusal, check}
@@ -11,7 +12,6 @@ use Rattle.fk_tree.specs.declared.applied.Applied.{Applied}
 use Rattle.fk_tree.specs.declared.request.Request.{Request}
 use Rattle.fk_tree.specs.Edit.{closes}
 use Rattle.fk_tree.specs.Locks.{lock_paths}
-use Rattle.fk_tree.proofs.Order.{and_left, and_right, by_test}
 use Rattle.fk_print.specs.declared.entry.Entry.{Entry}
 use Rattle.fk_print.specs.declared.op.Op.{Op}
 use Rattle.fk_print.specs.declared.op.Op.TheVariants as op
@@ -35,7 +35,9 @@ use Rattle.fk_law.proofs.Sending.{origin_stays}
 use Rattle.fk_law.proofs.Settled.{reached, settled_were_sent, settles_the_next}
 use Rattle.fk_law.proofs.Standing.{OnStanding, standing_step}
 use Rattle.fk_law.proofs.Starting.{follower_task, place_bound}
-use Rattle.fk_law.proofs.Numbering.{AllAtMost, more_at_most}
+use Rattle.fk_law.proofs.Numbering.{AllAtMost}
+use Rattle.fk_base.proofs.Logic.{and_left, and_right, by_test}
+use Rattle.fk_law.proofs.Closes.{commits_were_pushed}
 
 -- What grows. -------------------------------------------------------------------------------------------
 
@@ -66,16 +68,12 @@ commits_step : (p : Plan) (h : List Entry) (o : Op) → IsHistory p h → IsDue 
 commits_step p h (op.CommitOk n t) l d i = subst (λ y. AllAtMost (pushes_of h) (with_filled (committed_of p h) t y)) (sym (commit_is p n t h l d).is) (commit_low p n t h l d, i)
 commits_step p h o l d i = i
 
-commits_low : (p : Plan) (h : List Entry) → IsHistory p h → AllAtMost (pushes_of h) (committed_of p h)
-commits_low p [] l = tt
-commits_low p (e ∷ h) l = more_at_most (pushes_of h) (pushes_of (e ∷ h)) (committed_of p (e ∷ h)) (pushes_grow e h) (commits_step p h e.op l.0 (due p e h l) (commits_low p h l.0))
-
 editor_low : (n : ℕ) (path : PathNames) (done : List Applied) → AllAtMost n done → last_editor path done ≤ n
 editor_low n path [] i = omega arith
 editor_low n path (a ∷ done) i = by_test (has_path path (edited_paths a)) (λ b. cond b a.tx (last_editor path done) ≤ n) (λ _. i.0) (λ _. editor_low n path done i.1)
 
 edit_low : (p : Plan) (path : PathNames) (h : List Entry) → IsHistory p h → last_edit p path h ≤ pushes_of h
-edit_low p path h l = editor_low (pushes_of h) path (committed_of p h) (commits_low p h l)
+edit_low p path h l = editor_low (pushes_of h) path (committed_of p h) (commits_were_pushed p h l)
 
 last_step : (p : Plan) (c : ℕ) (h : List Entry) (o : Op) → IsHistory p h → IsDue p h o → last_of_session c h ≤ pushes_of h → last_for c h o (last_of_session c h) ≤ pushes_of h
 last_step p c h (op.CommitOk n t) l d i = by_test (is_session c (session_of_push t h)) (λ b. cond b t (last_of_session c h) ≤ pushes_of h) (λ _. commit_low p n t h l d) (λ _. i)
@@ -211,10 +209,7 @@ passed_low p n h (q ∷ ps) x l e = one (is_held_by n h (last_grant q h)) e (pas
   where
     one : (b : Bool) → cond b (first_passed n h ps) (Some (passed_on q (last_grant q h))) ≡ Some x → (first_passed n h ps ≡ Some x → (x.holder ≤ starts_of h) × (x.moment ≤ clock_of h)) → (x.holder ≤ starts_of h) × (x.moment ≤ clock_of h)
     one true f k = k f
-    one false f k = subst (λ (y : locks.Passed). (y.holder ≤ starts_of h) × (y.moment ≤ clock_of h)) (some_same (passed_on q (last_grant q h)) x f) (found_low h q (last_grant q h) (grant_low p q h l))
-      where
-        some_same : (a b : locks.Passed) → Some a ≡ Some b → a ≡ b
-        some_same a b f = cc
+    one false f k = subst (λ (y : locks.Passed). (y.holder ≤ starts_of h) × (y.moment ≤ clock_of h)) (same_Some (passed_on q (last_grant q h)) x f) (found_low h q (last_grant q h) (grant_low p q h l))
 
 own_step : (n : ℕ) (path : PathNames) (now : ℕ) (o : Op) (z : ℕ) → z ≤ now → own_moment_in n path now o z ≤ now
 own_step n path now (op.LockOk m q) z b = by_test ((m == n) && same_path q path) (λ x. cond x now z ≤ now) (λ _. omega arith) (λ _. b)

@@ -4,7 +4,6 @@ use Rattle.std.proofs.Common.{◌≡◌, ℕ, Bool, true, false, List, refl, sym
 use Rattle.std.proofs.lemmas.Bool.{false≢true}
 use Rattle.fk_base.specs.Path.{PathNames}
 use Rattle.fk_base.specs.declared.code.Code.TheVariants as code
-use Rattle.fk_tree.proofs.Order.{by_test}
 use Rattle.fk_print.specs.declared.op.Op.{Op}
 use Rattle.fk_print.specs.declared.op.Op.TheVariants as op
 use Rattle.fk_queue.specs.Letters.{head_number}
@@ -28,6 +27,7 @@ use Rattle.fk_spec.specs.Function.{actor}
 use Rattle.fk_spec.specs.Locks as locks
 use Rattle.fk_agree.specs.Stored.{LeavesStore}
 use Rattle.fk_agree.specs.Watched.{LeavesWatches}
+use Rattle.fk_base.proofs.Logic.{by_test}
 
 -- an operation that follower n may make, where its services don't fail
 abbrev pub Made : ℕ → Op → Type 0

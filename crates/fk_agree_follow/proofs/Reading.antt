@@ -6,7 +6,7 @@ use Rattle.fk_base.specs.Path.{PathNames}
 use Rattle.fk_tree.specs.Sorted.{in_path_order}
 use Rattle.fk_tree.specs.declared.node.Node.{Node}
 use Rattle.fk_tree.specs.Rows.{is_of}
-use Rattle.fk_tree.proofs.Order.{by_test, path_exact, path_total}
+use Rattle.fk_tree.proofs.Order.{path_exact, path_total}
 use Rattle.fk_tree.proofs.Rising.{same_rising}
 use Rattle.fk_print.specs.declared.entry.Entry.{Entry}
 use Rattle.fk_print.specs.declared.op.Op.TheVariants as op
@@ -29,6 +29,7 @@ use Rattle.fk_spec.specs.Next.{IsHistory}
 use Rattle.fk_law.proofs.Recording.{records_are_of_its_grants}
 use Rattle.fk_agree.proofs.Granting.{shows_node}
 use Rattle.fk_agree.proofs.Locking.{lock_is}
+use Rattle.fk_base.proofs.Logic.{by_test}
 
 -- The session's record. ---------------------------------------------------------------------------------
 

@@ -1,10 +1,9 @@
 -- A follower starts on the message of its lane's head.
 use Rattle.std.specs.Prelude.{◌==◌, ◌&&◌}
-use Rattle.std.proofs.Common.{◌≡◌, ℕ, ◌+◌, ◌≤◌, ◌<◌, cond, List, [], ◌∷◌, refl, sym, ◌∙◌, ap, subst, arith, Option, Some, None}
+use Rattle.std.proofs.Common.{◌≡◌, ℕ, ◌+◌, ◌<◌, cond, List, [], ◌∷◌, refl, sym, ◌∙◌, ap, subst, arith, Some}
 use Rattle.std.proofs.lemmas.Bool.{eqb-true}
 use Rattle.fk_base.specs.Path.{PathNames, same_path}
 use Rattle.fk_tree.specs.declared.request.Request.{Request}
-use Rattle.fk_tree.proofs.Order.{by_test}
 use Rattle.fk_print.specs.declared.entry.Entry.{Entry}
 use Rattle.fk_print.specs.declared.op.Op.{Op}
 use Rattle.fk_print.specs.declared.op.Op.TheVariants as op
@@ -17,7 +16,7 @@ use Rattle.fk_wire.proofs.Sents.{sents}
 use Rattle.fk_wire.proofs.Texts.{one_message}
 use Rattle.fk_stand.specs.Posts.{lane_after}
 use Rattle.fk_spec.specs.Plan.{Plan}
-use Rattle.fk_spec.specs.Start.{Follows, Start, clock_of, count_start, request_of, seen_from, seen_with, started_in, starts_of}
+use Rattle.fk_spec.specs.Start.{Follows, clock_of, request_of, seen_from, seen_with, started_in, starts_of}
 use Rattle.fk_spec.specs.Locks.{own_moment, own_moment_in}
 use Rattle.fk_spec.specs.Function.{is_absent}
 use Rattle.fk_spec.specs.Next.{IsHistory}
@@ -28,6 +27,8 @@ use Rattle.fk_law.proofs.Starting.{place_bound, start_places_it}
 use Rattle.fk_agree.specs.Heads.{IsRequestText}
 use Rattle.fk_agree.proofs.Heading.{session_head_is_its_request}
 use Rattle.fk_agree_follow.specs.Followers.{FollowerStarts, IsFollower}
+use Rattle.fk_base.proofs.Logic.{by_test}
+use Rattle.fk_law.proofs.Passing.{starts_grow}
 
 -- Who isn't started was granted nothing. ----------------------------------------------------------------
 
@@ -37,10 +38,6 @@ none_step p n path h (op.LockOk m q) l d b i =
     (λ e. let w = place_bound p m h l (ap is_absent d.1) in let s = eqb-true m n e in absurd (omega (arith, b, w.1, s)))
     (λ _. i)
 none_step p n path h o l d b i = i
-
-starts_grow : (o : Option Start) (n : ℕ) → n ≤ count_start o n
-starts_grow None n = omega arith
-starts_grow (Some s) n = omega arith
 
 pub no_moment : (p : Plan) (n : ℕ) (path : PathNames) (h : List Entry) → IsHistory p h → starts_of h < n → own_moment n path h ≡ 0
 no_moment p n path [] l b = refl

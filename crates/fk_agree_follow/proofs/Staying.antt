@@ -3,7 +3,6 @@ use Rattle.std.specs.Prelude.{◌==◌, ◌&&◌}
 use Rattle.std.proofs.Common.{◌≡◌, ◌≢◌, ℕ, ◌≤◌, true, cond, List, [], ◌∷◌, refl, sym, ◌∙◌, ap, subst, Option, Some}
 use Rattle.std.proofs.lemmas.Bool.{eqb-true}
 use Rattle.fk_base.specs.Path.{PathNames, same_path}
-use Rattle.fk_tree.proofs.Order.{by_test}
 use Rattle.fk_print.specs.declared.entry.Entry.{Entry}
 use Rattle.fk_print.specs.declared.op.Op.{Op}
 use Rattle.fk_print.specs.declared.op.Op.TheVariants as op
@@ -27,6 +26,7 @@ use Rattle.fk_law.proofs.Starting.{others_leave_it}
 use Rattle.fk_agree.proofs.Heading.{message_stays}
 use Rattle.fk_agree_follow.specs.Followers.{IsFollower, Keeps, OthersLeaveFollowers}
 use Rattle.fk_agree_follow.proofs.Operating.{its_task}
+use Rattle.fk_base.proofs.Logic.{by_test}
 
 not_its : (n m : ℕ) → (Some m ≢ Some n) → (m == n) ≡ true → ⊥
 not_its n m a e = a (ap Some (eqb-true m n e))

@@ -2,7 +2,6 @@
 use Rattle.std.specs.Prelude.{◌==◌, ◌||◌, is_some}
 use Rattle.std.proofs.Common.{◌≡◌, ℕ, ◌≤◌, ◌<◌, inr, Bool, true, false, cond, List, [], ◌∷◌, refl, ◌∙◌, ap, subst, arith, Some, None}
 use Rattle.std.proofs.lemmas.Bool.{false≢true}
-use Rattle.fk_tree.proofs.Order.{by_test}
 use Rattle.fk_print.specs.declared.entry.Entry.{Entry}
 use Rattle.fk_print.specs.declared.op.Op.{Op}
 use Rattle.fk_print.specs.declared.op.Op.TheVariants as op
@@ -18,13 +17,13 @@ use Rattle.fk_spec.specs.Next.{IsHistory}
 use Rattle.fk_law.specs.Due.{IsDue}
 use Rattle.fk_law.proofs.Due.{due}
 use Rattle.fk_law.proofs.Leading.{mark_behind_sweep}
-use Rattle.fk_law.proofs.Numbers.{itself}
 use Rattle.fk_law_watch.specs.Noting.{fired_at, fired_at_in, is_told, tells_all, untold}
 use Rattle.fk_law_watch.proofs.Epochs.{by_contains, listed_has_fired, some_right}
 use Rattle.fk_law_watch.proofs.Noting.{fired_is_listed, told_published}
 use Rattle.fk_law_watch.proofs.SetWatches.{set_or_fired_were_given}
 use Rattle.fk_agree.proofs.Sweeping.{epoch_is_the_rules, fired_are_the_rules}
 use Rattle.fk_agree_lead.specs.Leaders.{swept_as}
+use Rattle.fk_base.proofs.Logic.{by_test, itself}
 
 -- A sweep. ----------------------------------------------------------------------------------------------
 

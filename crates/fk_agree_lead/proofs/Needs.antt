@@ -19,7 +19,6 @@ use Rattle.fk_spec.specs.Client.{contains}
 use Rattle.fk_spec.specs.Next.{IsHistory}
 use Rattle.fk_law.proofs.Leading.{leader_at_or_below_the_head}
 use Rattle.fk_law.proofs.Settled.{reached}
-use Rattle.fk_law.proofs.Numbers.{itself}
 use Rattle.fk_law_watch.proofs.Counting.{pushes_are_bounded, sends_are_bounded}
 use Rattle.fk_law_watch.proofs.SetWatches.{given_are_bounded}
 use Rattle.fk_agree.proofs.Bounds.{is_number as is_limited, lane_low}
@@ -27,6 +26,7 @@ use Rattle.fk_agree.proofs.Serving.{lane_is, session_there}
 use Rattle.fk_agree_lead.specs.Leaders.{IsLeader, LeaderIsFit}
 use Rattle.fk_agree_lead.proofs.Given.{in_hand_was_given}
 use Rattle.fk_agree_lead.proofs.Pushed.{HasPush, its_push, lead_task}
+use Rattle.fk_base.proofs.Logic.{itself}
 
 -- the numbers of these watches are within the limits of messages
 fired_limited : (g l : ℕ) (fs : List Firing) → l < 2 ^ 62 → g ≤ l → ((id : ℕ) → contains id (ids_of fs) ≡ true → id ≤ g) → AreLimitedFired (map fired_as fs)

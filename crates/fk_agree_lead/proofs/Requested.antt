@@ -13,6 +13,7 @@ use Rattle.fk_spec.specs.Follower.{Follower}
 use Rattle.fk_spec.specs.Function.{Absent, Beating, Following, Leading, Place, Telling, place_of}
 use Rattle.fk_spec.specs.Next.{IsHistory}
 use Rattle.fk_law.proofs.Sending.{request_stays, request_was_sent}
+use Rattle.std.proofs.lemmas.Option.{same_Some}
 
 -- a message's request is the one of its session and its number
 abbrev TellsRequest : Plan → List Entry → Pushed → Type 0
@@ -21,13 +22,10 @@ TellsRequest p h x = request_of p x.session x.k h ≡ Some x.request
 none_some : (x : Pushed) → None ≡ Some x → ⊥
 none_some x e = grind arith
 
-some_same : (x y : Pushed) → Some x ≡ Some y → x ≡ y
-some_same x y e = cc
-
 -- a push of a follower tells the request that it asks for
 by_request : (p : Plan) (h : List Entry) (n moment : ℕ) (f : Follower) (x : Pushed) (o : Option Request) → request_of p f.session f.k h ≡ o → option_map (push_with n moment f) o ≡ Some x → TellsRequest p h x
 by_request p h n moment f x None a e = absurd (none_some x e)
-by_request p h n moment f x (Some r) a e = subst (TellsRequest p h) (some_same (push_with n moment f r) x e) a
+by_request p h n moment f x (Some r) a e = subst (TellsRequest p h) (same_Some (push_with n moment f r) x e) a
 
 -- so does that of each function
 by_place : (p : Plan) (h : List Entry) (n : ℕ) (x : Pushed) (y : Place) → push_by p h n y ≡ Some x → TellsRequest p h x
@@ -52,7 +50,7 @@ request_on p e h x l i = request_stays p x.session x.k e h (request_was_sent p x
 
 tells_step : (p : Plan) (t : ℕ) (h : List Entry) (x : Pushed) (o : Option Pushed) → ((y : Pushed) → o ≡ Some y → TellsRequest p h y) → (push_message_of p t h ≡ Some x → TellsRequest p h x) → or_else o (push_message_of p t h) ≡ Some x → TellsRequest p h x
 tells_step p t h x None f i e = i e
-tells_step p t h x (Some y) f i e = subst (TellsRequest p h) (some_same y x e) (f y refl)
+tells_step p t h x (Some y) f i e = subst (TellsRequest p h) (same_Some y x e) (f y refl)
 
 -- so a push's message tells it
 pub message_tells_its_request : (p : Plan) (t : ℕ) (h : List Entry) (x : Pushed) → IsHistory p h → push_message_of p t h ≡ Some x → request_of p x.session x.k h ≡ Some x.request

@@ -3,7 +3,6 @@ use Rattle.std.specs.Prelude.{◌+◌, if◌then◌else◌, nat_le, nat_lt, opti
 use Rattle.std.proofs.Common.{◌≡◌, ℕ, Bool, true, false, List, ◌∷◌, refl, sym, ◌∙◌, ap, subst, Some, None}
 use Rattle.std.proofs.lemmas.Bool.{eq-eqb}
 use Rattle.fk_base.specs.Faults.{one_more}
-use Rattle.fk_tree.proofs.Order.{by_test}
 use Rattle.fk_print.specs.declared.entry.Entry.{Entry}
 use Rattle.fk_print.specs.declared.op.Op.{Op}
 use Rattle.fk_print.specs.declared.op.Op.TheVariants as op
@@ -45,6 +44,7 @@ use Rattle.fk_agree.proofs.Watching.{watches_stay}
 use Rattle.fk_agree.proofs.Held.{left_table}
 use Rattle.fk_agree_notify.specs.Beats.{BeatFaultIsWritten, BeatIsWritten}
 use Rattle.fk_agree_notify.proofs.Beating.{beat_faults, beat_task, beats_client, calm_beat}
+use Rattle.fk_base.proofs.Logic.{by_test}
 
 -- What its operations leave. ----------------------------------------------------------------------------
 

@@ -2,7 +2,6 @@
 use Rattle.std.specs.Prelude.{◌+◌, ◌-◌, ◌<◌, ◌^◌, if◌then◌else◌, nat_le, nat_lt, is_some}
 use Rattle.std.proofs.Common.{◌≡◌, ℕ, inl, inr, ◌⊎◌, Bool, true, false, List, ◌∷◌, length, refl, sym, ◌∙◌, ap, subst, arith, Some}
 use Rattle.std.proofs.lemmas.Bool.{false≢true}
-use Rattle.fk_tree.proofs.Order.{by_test}
 use Rattle.fk_print.specs.declared.entry.Entry.{Entry}
 use Rattle.fk_print.specs.declared.op.Op.{Op}
 use Rattle.fk_print.specs.declared.op.Op.TheVariants as op
@@ -34,6 +33,7 @@ use Rattle.fk_agree.proofs.Serving.{lane_is, session_is, session_there, IsOf}
 use Rattle.fk_agree_notify.specs.Beats.{BeatFails, BeatGoesOn, BeatIsFit, BeatMakesItsOperation, BeatStarts, IsBeat, OthersLeaveBeats}
 use Rattle.fk_agree.specs.Ends.{HasEnded}
 use Rattle.fk_agree.proofs.Bounds.{is_number as is_limited, lane_low}
+use Rattle.fk_base.proofs.Logic.{by_test}
 
 -- Its session is a client's. ----------------------------------------------------------------------------
 

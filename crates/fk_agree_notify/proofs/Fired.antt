@@ -3,10 +3,10 @@ use Rattle.std.specs.Prelude.{◌==◌, is_some}
 use Rattle.std.proofs.Common.{◌≡◌, ℕ, ◌++◌, Bool, true, false, cond, List, [], ◌∷◌, refl, sym, ◌∙◌, ap, subst, arith, Option, Some, None}
 use Rattle.std.proofs.lemmas.Bool.{false≢true}
 use Rattle.std.proofs.lemmas.Bool.Decides.{nat_tests}
+use Rattle.std.proofs.lemmas.Option.{same_Some}
 use Rattle.fk_tree.specs.Watch.{first_taken}
 use Rattle.fk_tree.specs.declared.change.Change.{Change}
 use Rattle.fk_tree.specs.declared.change.Touch.{Touch}
-use Rattle.fk_tree.proofs.Order.{by_test}
 use Rattle.fk_print.specs.declared.entry.Entry.{Entry}
 use Rattle.fk_print.specs.declared.op.Op.{Op}
 use Rattle.fk_print.specs.declared.op.Op.TheVariants as op
@@ -25,6 +25,7 @@ use Rattle.fk_law_watch.proofs.Listing.{fired_of}
 use Rattle.fk_law_watch.proofs.Noting.{OnTeller, fired_of_a_push, teller_step}
 use Rattle.fk_law_watch.proofs.SetWatches.{firing_never_changes, watches_unique}
 use Rattle.fk_agree.proofs.Firing.{FireOnce, firings_once}
+use Rattle.fk_base.proofs.Logic.{by_test}
 
 -- What a note tells has fired. --------------------------------------------------------------------------
 
@@ -109,10 +110,7 @@ AreOfClients p [] = Unit {0}
 AreOfClients p (w ∷ ws) = (is_client p w.session ≡ true) × AreOfClients p ws
 
 wanted_by : (id c : ℕ) (a : Want) (w : Watch) → watch_wanted id c a ≡ Some w → w.session ≡ c
-wanted_by id c (Reads q b) w e = sym (ap (λ x. x.session) (some_same _ w e))
-  where
-    some_same : (x y : Watch) → Some x ≡ Some y → x ≡ y
-    some_same x y f = cc
+wanted_by id c (Reads q b) w e = sym (ap (λ x. x.session) (same_Some _ w e))
 wanted_by id c a w e = absurd (grind arith)
 
 asked_by : (id c : ℕ) (a : Option Ask) (w : Watch) → watch_asked id c a ≡ Some w → (w.session ≡ c) × (is_some a ≡ true)
@@ -153,12 +151,9 @@ set_clients p (e ∷ h) = set_clients_step p h e.op (set_clients p h)
 client_with : (p : Plan) (id : ℕ) (ws : List Watch) (w : Watch) → AreOfClients p ws → watch_with id ws ≡ Some w → is_client p w.session ≡ true
 client_with p id [] w i e = absurd (grind arith)
 client_with p id (v ∷ ws) w i e = one (v.id == id) e (client_with p id ws w i.1)
-  where
-    some_same : (x y : Watch) → Some x ≡ Some y → x ≡ y
-    some_same x y f = cc
 
     one : (b : Bool) → cond b (Some v) (watch_with id ws) ≡ Some w → (watch_with id ws ≡ Some w → is_client p w.session ≡ true) → is_client p w.session ≡ true
-    one true f k = subst (λ x. is_client p x.session ≡ true) (some_same v w f) i.0
+    one true f k = subst (λ x. is_client p x.session ≡ true) (same_Some v w f) i.0
     one false f k = k f
 
 client_step : (p : Plan) (id : ℕ) (h : List Entry) (o : Op) (f : Firing) → IsHistory p h → (firing_of p id h ≡ Some f → is_client p f.watch.session ≡ true) → or_else (firing_in p id h o) (firing_of p id h) ≡ Some f → is_client p f.watch.session ≡ true

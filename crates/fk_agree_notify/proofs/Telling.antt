@@ -2,7 +2,6 @@
 use Rattle.std.specs.Prelude.{◌-◌, ◌<◌, ◌≤◌, ◌^◌, if◌then◌else◌, map, is_some}
 use Rattle.std.proofs.Common.{◌≡◌, ℕ, inl, inr, ◌⊎◌, Bool, true, false, List, [], ◌∷◌, length, refl, sym, ◌∙◌, ap, subst, arith, Some}
 use Rattle.std.proofs.lemmas.Bool.{false≢true}
-use Rattle.fk_tree.proofs.Order.{by_test}
 use Rattle.fk_print.specs.declared.entry.Entry.{Entry}
 use Rattle.fk_print.specs.declared.op.Op.TheVariants as op
 use Rattle.fk_queue.specs.Letters.{head_bytes, head_number}
@@ -44,6 +43,7 @@ use Rattle.fk_agree.specs.Ends.{HasEnded}
 use Rattle.fk_agree_notify.specs.Tellers.{IsTeller, OthersLeaveTellers, TellerFails, TellerGoesOn, TellerIsFit, TellerMakesItsOperation, TellerStarts}
 use Rattle.fk_agree.proofs.Bounds.{is_number as is_limited, lane_low, mark_low}
 use Rattle.fk_agree_notify.proofs.Fired.{AllFired, StageFired, fired_of_client, fired_where_it_stands, note_all}
+use Rattle.fk_base.proofs.Logic.{by_test}
 
 -- Its operation. ----------------------------------------------------------------------------------------
 

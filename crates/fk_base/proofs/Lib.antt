@@ -1,4 +1,5 @@
-mod Joins
+pub mod Joins
+pub mod Logic
 pub mod Numerals
 mod PathOrder
 pub mod PathTexts

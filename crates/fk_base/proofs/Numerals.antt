@@ -14,8 +14,8 @@ use Rattle.std.proofs.lemmas.Str.Parse.{IsNumeralModel, numerals_by_value, tells
 use Rattle.fk_base.specs.Digits.{digits_below, expected_of, number_below}
 use Rattle.fk_base.specs.Limits.{IsExpected}
 
-own : IsNumeralModel (λ ds. all_ascii_digits ds ≡ true) (digits_value 10)
-own = numerals_by_value (λ ds. all_ascii_digits ds ≡ true) tells_all_ascii_digits
+pub numerals : IsNumeralModel (λ ds. all_ascii_digits ds ≡ true) (digits_value 10)
+numerals = numerals_by_value (λ ds. all_ascii_digits ds ≡ true) tells_all_ascii_digits
 
 digit_split : (c : ℕ) (rest : Bool) → (is_ascii_digit c && rest) ≡ true → (c < 128) × (rest ≡ true)
 digit_split c rest h = (grind (arith, nat_tests), grind (arith, nat_tests))
@@ -63,13 +63,13 @@ no_version word no_utf8 = step (bytes_eq word (codes "-1")) (λ e. (bytes_eq-Dec
 pub no_number : (limit : ℕ) (word : List ℕ) → limit < 2 ^ 64 → ¬ (IsNumeral 10 (without_leading_plus word) × digits_value 10 (without_leading_plus word) < 2 ^ 64) → number_below limit word ≡ None
 unfolding number_below
 no_number limit word small fails =
-    none_by limit (without_leading_plus word) (λ f. fails ((f.1, own.to (without_leading_plus word) f.0), omega (arith, f.2)))
+    none_by limit (without_leading_plus word) (λ f. fails ((f.1, numerals.to (without_leading_plus word) f.0), omega (arith, f.2)))
 
 pub number_is : (limit : ℕ) (word : List ℕ) (n : ℕ) → (IsNumeral 10 (without_leading_plus word) × digits_value 10 (without_leading_plus word) < 2 ^ 64) × n ≡ digits_value 10 (without_leading_plus word)
     → number_below limit word ≡ cond (nat_lt n limit) (Some n) None
 unfolding number_below
 number_is limit word n is =
-    let digits : all_ascii_digits (without_leading_plus word) ≡ true = own.from (without_leading_plus word) is.0.0.1 in
+    let digits : all_ascii_digits (without_leading_plus word) ≡ true = numerals.from (without_leading_plus word) is.0.0.1 in
     let long : nat_lt 0 (length (without_leading_plus word)) ≡ true = grind (arith, nat_tests, is.0.0.0) in
     rw (digits, long, ← is.1) refl
 
@@ -95,14 +95,14 @@ digits_no_plus [] h = refl
 digits_no_plus (c ∷ ds) h = rw (digit_no_plus c (all_ascii_digits ds) h) refl
 
 pub decimal_digits : (n : ℕ) → n < 2 ^ 64 → all_ascii_digits (decimal n) ≡ true
-decimal_digits n l = digits_decimal own n l
+decimal_digits n l = digits_decimal numerals n l
 
 pub below_back : (limit n : ℕ) → n < limit → n < 2 ^ 64 → number_below limit (decimal n) ≡ Some n
 unfolding number_below
 below_back limit n low l =
     let long : nat_lt 0 (length (decimal n)) ≡ true = grind (arith, nat_tests, decimal_nonempty n l) in
     let test : nat_lt n limit ≡ true = grind (arith, nat_tests) in
-    rw (digits_no_plus (decimal n) (decimal_digits n l), decimal_digits n l, long, digits_value-decimal own n l, test) refl
+    rw (digits_no_plus (decimal n) (decimal_digits n l), decimal_digits n l, long, digits_value-decimal numerals n l, test) refl
 
 minus_back : expected_of (signed_decimal (negsuc 0)) ≡ Some (negsuc 0)
 unfolding expected_of digits

@@ -1,22 +1,14 @@
 -- A path and its text: the pieces between slashes, put behind slashes again, and back.
 use Rattle.std.proofs.Common.{◌≡◌, ◌≢◌, ℕ, ◌+◌, ◌<◌, length, get_or, take, append_assoc, Bool, true, false, cond, List, [], ◌∷◌, ◌++◌, Some, None, refl, sym, ◌∙◌, ap, arith}
-use Rattle.std.specs.Prelude.{◌&&◌, ◌||◌, not, All}
+use Rattle.std.specs.Prelude.{◌||◌, not, All}
 use Rattle.std.specs.List.{onto_first}
-use Rattle.std.proofs.lemmas.Bool.{false≢true}
 use Rattle.std.proofs.lemmas.List.{append-nil, take_more}
 use Rattle.std.proofs.lemmas.List.Concat.{flat_map-append}
 use Rattle.std.proofs.lemmas.List.Elements.{All-nil, All-cons}
 use Rattle.std.proofs.lemmas.List.Splits.{slice_split_none, slice_split_at}
 use Rattle.std.proofs.lemmas.Bool.Decides.{nat_tests}
 use Rattle.fk_base.specs.Path.{Name, PathNames, is_slash, is_barred_byte, is_barred_pair, has_barred, is_dots, is_name, are_names, pieces, if_names, path_behind, path_of, names_text, path_text}
-
-and_left : (a b : Bool) → (a && b) ≡ true → a ≡ true
-and_left true b e = refl
-and_left false b e = e
-
-and_right : (a b : Bool) → (a && b) ≡ true → b ≡ true
-and_right true b e = e
-and_right false b e = absurd (false≢true e)
+use Rattle.fk_base.proofs.Logic.{and_left, and_right}
 
 -- a byte before the first piece stands behind the first slash
 names_text-onto_first : (c : ℕ) (cs : List ℕ) (ns : List Name) → names_text ns ≡ 47 ∷ cs → names_text (onto_first c ns) ≡ 47 ∷ c ∷ cs
@@ -68,7 +60,7 @@ no_slash (c ∷ n) h = All-cons (λ d. is_slash d ≡ false) c n (not_barred c n
     not_barred : (c : ℕ) (n : List ℕ) → has_barred (c ∷ n) ≡ false → is_slash c ≡ false
     not_barred c n e = grind (arith, nat_tests)
 
-name_clean : (n : Name) → is_name n ≡ true → has_barred n ≡ false
+pub name_clean : (n : Name) → is_name n ≡ true → has_barred n ≡ false
 name_clean n e = not_true (has_barred n) (and_right (not (is_dots n)) (not (has_barred n)) e)
   where
     not_true : (b : Bool) → not b ≡ true → b ≡ false

@@ -7,3 +7,4 @@ pub mod Path
 pub mod PathLaws
 pub mod Sink
 pub mod Source
+pub mod Times

@@ -26,7 +26,7 @@ same_go_on : (asks : List Ask) (ss : List Unanswered) → all_go_on by_outcome a
 same_go_on asks [] = refl
 same_go_on asks (s ∷ ss) = ap (λ b. goes_on (nth asks s.command) && b) (same_go_on asks ss)
 
-same_none : (ss : List Unanswered) → is_none_sent ss ≡ is_none_sent (all_known ss)
+pub same_none : (ss : List Unanswered) → is_none_sent ss ≡ is_none_sent (all_known ss)
 same_none [] = refl
 same_none (s ∷ ss) = refl
 

@@ -4,11 +4,10 @@ use Rattle.std.specs.Prelude.{◌&&◌, nat_lt}
 use Rattle.std.proofs.lemmas.Bool.Decides.{nat_tests}
 use Rattle.std.proofs.lemmas.Bool.{eqb-true, eq-eqb}
 use Rattle.fk_base.specs.Path.{PathNames, same_path}
-use Rattle.fk_tree.proofs.Order.{and_left, and_right, by_test, same_path_is, same_path_self}
+use Rattle.fk_tree.proofs.Order.{same_path_is, same_path_self}
 use Rattle.fk_tree.specs.Ask.{path_asked}
 use Rattle.fk_tree.specs.Watch.{kind_asked, same_kind}
 use Rattle.fk_tree.specs.declared.change.Kind.{Kind}
-use Rattle.fk_tree.specs.declared.change.Kind.TheVariants as kind
 use Rattle.fk_tree.specs.declared.request.Query.{Query}
 use Rattle.fk_watch.specs.Answers.{IsRegister}
 use Rattle.fk_watch.specs.declared.answer.Register.TheVariants as register
@@ -16,15 +15,10 @@ use Rattle.fk_watch.specs.declared.watch.Watch.{Watch}
 use Rattle.fk_watch.specs.Meaning.{Watches}
 use Rattle.fk_watch.specs.Registering.{IsNumberOf, IsUnset, registered}
 use Rattle.fk_watch.specs.Sound.{IsGiven, IsSound}
-use Rattle.fk_watch.proofs.Noting.{same_kind_self}
 use Rattle.fk_client.specs.Registering.{is_watch, register_for, set_number, watch_number, watch_of}
 use Rattle.fk_client.specs.declared.registering.Registered.TheVariants as registering
-
-kinds_are : (i j : Kind) → same_kind i j ≡ true → i ≡ j
-kinds_are kind.Data kind.Data e = refl
-kinds_are kind.Child kind.Child e = refl
-kinds_are kind.Data kind.Child e = grind arith
-kinds_are kind.Child kind.Data e = grind arith
+use Rattle.fk_base.proofs.Logic.{and_left, and_right, by_test}
+use Rattle.fk_tree.proofs.SameKind.{same_kind_is, same_kind_self}
 
 abbrev some_watch : ℕ → PathNames → Kind → Option Watch
 some_watch s p k = Some (record { session = s; path = p; kind = k })
@@ -39,7 +33,7 @@ is_itself w x e =
     same_watch x.session w.session x.path w.path x.kind w.kind
     (eqb-true x.session w.session (and_left (x.session == w.session) (same_path x.path w.path) front))
     (same_path_is x.path w.path (and_right (x.session == w.session) (same_path x.path w.path) front))
-    (kinds_are x.kind w.kind (and_right ((x.session == w.session) && same_path x.path w.path) (same_kind x.kind w.kind) e))
+    (same_kind_is x.kind w.kind (and_right ((x.session == w.session) && same_path x.path w.path) (same_kind x.kind w.kind) e))
 
 is_there : (w : Watch) (o : Option Watch) → is_watch w o ≡ true → o ≡ Some w
 is_there w None e = grind arith

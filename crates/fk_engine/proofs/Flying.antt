@@ -9,10 +9,10 @@ use Rattle.std.proofs.lemmas.List.Sorted.{searched}
 use Rattle.std.proofs.lemmas.Map.Keys.{below_from_sorted}
 use Rattle.std.proofs.lemmas.Option.{same_Some}
 use Rattle.fk_tree.specs.Sorted.{is_below}
-use Rattle.fk_tree.proofs.Order.{and_left, and_right}
 use Rattle.fk_tree.proofs.Rising.{below_absent}
 use Rattle.fk_user.specs.Ids.{has_id, ids_rise, without_id}
 use Rattle.fk_user.proofs.Placing.{rise_strict, without_absent, without_rises}
+use Rattle.fk_base.proofs.Logic.{and_left, and_right}
 
 -- ---- added
 
@@ -22,7 +22,7 @@ first_there m ns = grind arith
 then_there : (m n : ℕ) (ns : List ℕ) → has_id n ns ≡ true → has_id n (m ∷ ns) ≡ true
 then_there m n ns h = grind (arith, h)
 
-below_pushed : (m n : ℕ) (ns : List ℕ) → m < n → is_below nat_cmp m ns ≡ true → is_below nat_cmp m (ns ++ n ∷ []) ≡ true
+pub below_pushed : (m n : ℕ) (ns : List ℕ) → m < n → is_below nat_cmp m ns ≡ true → is_below nat_cmp m (ns ++ n ∷ []) ≡ true
 below_pushed m n [] l h = grind (arith, l)
 below_pushed m n (k ∷ ns) l h = rw (and_left (is_lt (nat_cmp m k)) (is_below nat_cmp m ns) h) (below_pushed m n ns l (and_right (is_lt (nat_cmp m k)) (is_below nat_cmp m ns) h))
 

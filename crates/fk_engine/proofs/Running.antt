@@ -5,7 +5,6 @@ use Rattle.std.specs.BTreeMap.{is_at}
 use Rattle.std.specs.Cmp.{nat_cmp_total}
 use Rattle.std.specs.FinMap.{nat_cmp-IsAntisymmetric}
 use Rattle.std.specs.Ordering.{nat_cmp, is_eq}
-use Rattle.fk_tree.proofs.Order.{by_test}
 use Rattle.fk_tree.proofs.Rising.{has_without}
 use Rattle.fk_user.specs.Ids.{has_id, without_id}
 use Rattle.fk_watch.proofs.Firing.{same_id, same_is}
@@ -16,6 +15,7 @@ use Rattle.fk_engine.specs.Flights.{Meaning, moved, without}
 use Rattle.fk_engine.specs.Machines as machine
 use Rattle.fk_engine.specs.Machines.{is_ended, machine_of}
 use Rattle.fk_engine.specs.declared.machine.Machine.{Machine}
+use Rattle.fk_base.proofs.Logic.{by_test}
 
 -- which numbers are listed
 abbrev pub AreListed : {X : Type 0} → List ℕ → List (ℕ × X) → Type 0

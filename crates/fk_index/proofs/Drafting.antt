@@ -7,10 +7,11 @@ use Rattle.fk_base.specs.Path.{PathNames, path_cmp, same_path}
 use Rattle.fk_tree.specs.Edit.{edit}
 use Rattle.fk_tree.specs.declared.edit.Edit.{Edit}
 use Rattle.fk_tree.specs.declared.node.Node.{Node}
-use Rattle.fk_tree.proofs.Order.{by_test, same_path_is, same_path_self}
+use Rattle.fk_tree.proofs.Order.{same_path_is, same_path_self}
 use Rattle.fk_index.specs.Slots.{Slots, flat, node_of, record_at}
 use Rattle.fk_index.specs.Drafts.{Drafts, drafted, is_drafted, node_over, or_node}
 use Rattle.fk_index.proofs.Finding.{put, written, IsUpdated, IsWritten}
+use Rattle.fk_base.proofs.Logic.{by_test}
 
 -- the draft's node is the one of a path that it has
 pub drafted_is : (d : Drafts) (m : Slots) (k : PathNames) → is_drafted d k ≡ true → drafted d k ≡ node_over d m k

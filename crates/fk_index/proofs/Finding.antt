@@ -1,18 +1,14 @@
 -- Ordered maps by path: what is found, put and changed there, path by path.
 use Rattle.std.proofs.Common.{◌≡◌, Bool, true, false, cond, Option, Some, None, refl, sym, ◌∙◌, ap}
-use Rattle.std.specs.Prelude.{is_some, Result, Ok, Err, OnOk, OnErr}
+use Rattle.std.specs.Prelude.{is_some, Result, Ok, Err, OnErr}
 use Rattle.std.specs.BTreeMap as tree
 use Rattle.std.specs.BTreeMap.{BTreeMap, is_at, WritesThrough}
 use Rattle.fk_base.specs.Path.{PathNames, path_cmp, same_path}
-use Rattle.fk_tree.proofs.Order.{same_path_is, by_test}
+use Rattle.fk_tree.proofs.Order.{same_path_is}
 use Rattle.fk_tree.proofs.Looking.{same_flip}
 use Rattle.fk_store.specs.declared.node_record.NodeRecord.{NodeRecord}
 use Rattle.fk_index.specs.Slots.{Slots, flat, has_slot, record_at}
-
--- what follows of a fact for one variant
-pub ok_so : {T E : Type 0} {A B : Type 0} (r : Result T E) → OnOk r A → (A → B) → OnOk r B
-ok_so (Ok x) a f = f a
-ok_so (Err x) a f = a
+use Rattle.fk_base.proofs.Logic.{by_test}
 
 pub err_so : {T E : Type 0} {A B : Type 0} (r : Result T E) → OnErr r A → (A → B) → OnErr r B
 err_so (Ok x) a f = a

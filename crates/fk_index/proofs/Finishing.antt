@@ -1,5 +1,5 @@
 -- The edit that waited, made in place.
-use Rattle.std.proofs.Common.{◌≡◌, ◌≤◌, ℕ, Bool, true, false, cond, not, List, Option, Some, None, length, refl, sym, ◌∙◌, ap}
+use Rattle.std.proofs.Common.{◌≡◌, ◌≤◌, ℕ, Bool, true, false, cond, List, Option, Some, None, length, refl, sym, ◌∙◌, ap}
 use Rattle.std.specs.Prelude.{is_some}
 use Rattle.std.specs.BTreeMap as tree
 use Rattle.std.proofs.lemmas.Bool.{false≢true, not-true}
@@ -9,7 +9,7 @@ use Rattle.fk_tree.specs.Rows.{is_of, names_of}
 use Rattle.fk_tree.specs.Sorted.{rises}
 use Rattle.fk_tree.specs.declared.node.Node.{Node}
 use Rattle.fk_tree.proofs.Editing.{edit_rises}
-use Rattle.fk_tree.proofs.Order.{and_left, and_right, by_test, same_path_is}
+use Rattle.fk_tree.proofs.Order.{same_path_is}
 use Rattle.fk_store.specs.declared.node_record.NodeRecord.{NodeRecord}
 use Rattle.fk_store.specs.declared.write.Write.{Write}
 use Rattle.fk_index.specs.declared.drafts.Step.{Step}
@@ -21,6 +21,7 @@ use Rattle.fk_index.specs.Waiting.{keeps_owner, may_wait, pended, IsPrepared}
 use Rattle.fk_index.proofs.Meanings.{kept_owned}
 use Rattle.fk_index.proofs.Parts.{all_nodes, all_slots, own_node, rest_kept, same_slots}
 use Rattle.fk_index.proofs.Readiness.{none_kept, owner_kept, owner_of_node, ArePrepared}
+use Rattle.fk_base.proofs.Logic.{and_left, and_right, by_test}
 
 -- each record has its node as the edit that waited leaves it
 abbrev pub IsFinished : Option Step → Slots → Slots → Type 0

@@ -16,14 +16,11 @@ use Rattle.std.proofs.lemmas.List.{map-append, append-nil}
 use Rattle.std.proofs.lemmas.Map.Keys.{sorted_head, sorted_tail}
 use Rattle.fk_base.specs.Path.{PathNames, path_cmp, same_path}
 use Rattle.fk_tree.specs.Sorted.{has_path, is_below, rises}
-use Rattle.fk_tree.proofs.Order.{by_test, path_exact, path_total, same_path_is, same_path_self}
+use Rattle.fk_tree.proofs.Order.{path_exact, path_total, same_path_is, same_path_self}
 use Rattle.fk_tree.proofs.Rising.{below_absent}
 use Rattle.fk_index.specs.Owners.{Marks, Owners, has_place, is_marked, is_set, mark_at, mark_in, marked_keys, IsMarked, IsMarkedIn, KeepMarks, KeepMarksIn, KeepsPlaces, KeepsPlacesIn}
 use Rattle.fk_index.proofs.Finding.{put}
-
-none_is : {A : Type 0} (o : Option A) → is_some o ≡ false → o ≡ None
-none_is None e = refl
-none_is (Some x) e = absurd (cc)
+use Rattle.fk_base.proofs.Logic.{by_test, none_is}
 
 some_is : {A : Type 0} (o : Option A) → o ≡ None → is_some o ≡ true → ⊥
 some_is o e h = false≢true (ap is_some (sym e) ∙ h)

@@ -3,9 +3,9 @@ use Rattle.std.proofs.Common.{◌≡◌, ℕ, zero, suc, ◌+◌, ◌<◌, ◌�
 use Rattle.std.specs.Prelude.{is_some}
 use Rattle.std.proofs.lemmas.Bool.{false≢true}
 use Rattle.std.proofs.lemmas.Bool.Decides.{nat_tests}
-use Rattle.fk_tree.proofs.Order.{by_test}
 use Rattle.fk_store.specs.Numbered.{session_at, session_from}
 use Rattle.fk_store.specs.declared.session_record.SessionRecord.{SessionRecord}
+use Rattle.fk_base.proofs.Logic.{by_test}
 
 from_place : (i k : ℕ) (rs : List SessionRecord) (r : SessionRecord) → k < length rs → session_from i (i + k) rs ≡ Some (get_or rs k r)
 from_place i k [] r l = let none : ⊥ = omega arith in absurd none

@@ -1,9 +1,8 @@
 -- What writes make of a record is what they make of its node, in what they make of the rest.
-use Rattle.std.proofs.Common.{◌≡◌, ℕ, zero, suc, ◌+◌, ◌<◌, ◌≤◌, Bool, true, false, cond, ◌&&◌, List, [], ◌∷◌, ◌++◌, Option, Some, None, length, take, drop, get_or, refl, sym, ◌∙◌, ap, arith, drop-cons}
+use Rattle.std.proofs.Common.{◌≡◌, ℕ, zero, suc, ◌+◌, ◌<◌, ◌≤◌, Bool, true, false, cond, List, [], ◌∷◌, ◌++◌, Option, Some, None, length, take, drop, get_or, refl, sym, ◌∙◌, ap, arith, drop-cons}
 use Rattle.std.proofs.lemmas.List.{take_more}
 use Rattle.fk_base.specs.Path.{PathNames}
 use Rattle.fk_tree.specs.declared.node.Node.{Node}
-use Rattle.fk_tree.proofs.Order.{and_left, and_right}
 use Rattle.fk_store.specs.declared.lock.Lock.{Lock}
 use Rattle.fk_store.specs.declared.node_record.NodeRecord.{NodeRecord}
 use Rattle.fk_store.specs.declared.write.Write.{Write}
@@ -12,6 +11,7 @@ use Rattle.fk_store.specs.Locks.{no_lock, granted, released}
 use Rattle.fk_store.specs.Writes.{is_of_path, record_by, record_after, records_written}
 use Rattle.fk_index.specs.Slots.{Slots, node_of, KeepsSlots, SameSlots}
 use Rattle.fk_index.specs.Parts.{node_by, node_after, nodes_written, rest_by, rest_after, rest_of, rests_written, with_node, has_slot_of, have_slots}
+use Rattle.fk_base.proofs.Logic.{and_both, and_left, and_right}
 
 -- THE REST OF A RECORD
 abbrev joined : Option Node → Option (Lock × ℕ) → Option NodeRecord
@@ -142,16 +142,13 @@ slot_stays (write.Grant q inv moment) m n k h = k q h
 slot_stays (write.Change e tx moment) m n k h = k e.path h
 slot_stays _ m n k h = refl
 
-both : (a b : Bool) → a ≡ true → b ≡ true → (a && b) ≡ true
-both a b e f = rw e f
-
 pub slots_stay : (ws : List Write) (m n : Slots) → KeepsSlots m n → have_slots m ws ≡ true → have_slots n ws ≡ true
 slots_stay [] m n k h = refl
-slots_stay (w ∷ ws) m n k h = both _ _ (slot_stays w m n k (and_left _ _ h)) (slots_stay ws m n k (and_right _ _ h))
+slots_stay (w ∷ ws) m n k h = and_both _ _ (slot_stays w m n k (and_left _ _ h)) (slots_stay ws m n k (and_right _ _ h))
 
 slots_more : (ws : List Write) (w : Write) (m : Slots) → have_slots m ws ≡ true → has_slot_of m w ≡ true → have_slots m (ws ++ w ∷ []) ≡ true
-slots_more [] w m h a = both _ _ a refl
-slots_more (x ∷ ws) w m h a = both _ _ (and_left _ _ h) (slots_more ws w m (and_right _ _ h) a)
+slots_more [] w m h a = and_both _ _ a refl
+slots_more (x ∷ ws) w m h a = and_both _ _ (and_left _ _ h) (slots_more ws w m (and_right _ _ h) a)
 
 pub slots_taken : (ws : List Write) (i : ℕ) (w : Write) (m n : Slots) → i < length ws → w ≡ get_or ws i w → KeepsSlots m n → have_slots m (take i ws) ≡ true → has_slot_of n w ≡ true → have_slots n (take (i + 1) ws) ≡ true
 slots_taken ws i w m n l s k h a = rw (take_more ws i w l, ← s) (slots_more (take i ws) w n (slots_stay (take i ws) m n k h) a)
@@ -168,7 +165,7 @@ same_slots ws m n k = slots_stay ws m n (λ p h. k p ∙ h)
 pub all_slots : (ws : List Write) (i : ℕ) (m : Slots) → length ws ≤ i → have_slots m (take i ws) ≡ true → have_slots m ws ≡ true
 all_slots [] i m l h = refl
 all_slots (w ∷ ws) zero m l h = let none : ⊥ = omega arith in absurd none
-all_slots (w ∷ ws) (suc i) m l h = let shorter : length ws ≤ i = omega arith in both _ _ (and_left _ _ h) (all_slots ws i m shorter (and_right _ _ h))
+all_slots (w ∷ ws) (suc i) m l h = let shorter : length ws ≤ i = omega arith in and_both _ _ (and_left _ _ h) (all_slots ws i m shorter (and_right _ _ h))
 
 pub all_nodes : (p : PathNames) (ws : List Write) (i : ℕ) (o : Option Node) → length ws ≤ i → nodes_written p (drop i ws) o ≡ o
 all_nodes p [] zero o l = refl

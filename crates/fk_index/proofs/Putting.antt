@@ -6,7 +6,7 @@ use Rattle.fk_base.specs.Path.{PathNames, name_cmp, path_cmp, same_path}
 use Rattle.fk_tree.specs.Rows.{is_of, names_of}
 use Rattle.fk_tree.specs.Sorted.{rises}
 use Rattle.fk_tree.specs.declared.node.Node.{Node}
-use Rattle.fk_tree.proofs.Order.{by_test, same_path_is, same_path_self}
+use Rattle.fk_tree.proofs.Order.{same_path_is, same_path_self}
 use Rattle.fk_store.specs.Answers.{has_owner}
 use Rattle.fk_store.specs.declared.node_record.NodeRecord.{NodeRecord}
 use Rattle.fk_store.specs.declared.write.Write.{Write}
@@ -17,6 +17,7 @@ use Rattle.fk_index.specs.Drafts.{Drafts, node_over, or_node, IsReady}
 use Rattle.fk_index.proofs.Parts.{node_kept, own_node}
 use Rattle.fk_index.proofs.Readiness.{owned_placed, owner_of_node}
 use Rattle.fk_index.proofs.Finding.{put, IsUpdated}
+use Rattle.fk_base.proofs.Logic.{by_test}
 
 -- ONE PATH
 pub owner_is : (s : ℕ) (o : Option Node) → 0 < s → is_of s o ≡ eqb (owner_of o) s

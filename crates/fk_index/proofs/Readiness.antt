@@ -1,6 +1,6 @@
 -- What a transaction's writes are prepared by.
 use Rattle.std.proofs.Common.{◌≡◌, ◌<◌, ℕ, ◌+◌, Bool, true, false, cond, eqb, ◌||◌, List, Option, Some, None, length, take, drop, get_or, refl, sym, ◌∙◌, ap, subst, arith}
-use Rattle.std.specs.Prelude.{is_some, IfOk, Result, Ok, Err}
+use Rattle.std.specs.Prelude.{is_some}
 use Rattle.std.specs.BTreeMap as tree
 use Rattle.std.proofs.lemmas.Bool.{false≢true}
 use Rattle.std.proofs.lemmas.Bool.Decides.{nat_tests}
@@ -14,7 +14,7 @@ use Rattle.fk_tree.specs.declared.edit.What.{What}
 use Rattle.fk_tree.specs.declared.edit.What.TheVariants as what
 use Rattle.fk_tree.specs.declared.node.Node.{Node}
 use Rattle.fk_tree.proofs.Editing.{edit_rises}
-use Rattle.fk_tree.proofs.Order.{and_left, by_test, same_path_is}
+use Rattle.fk_tree.proofs.Order.{same_path_is}
 use Rattle.fk_store.specs.Answers.{has_owner}
 use Rattle.fk_store.specs.declared.node_record.NodeRecord.{NodeRecord}
 use Rattle.fk_store.specs.declared.write.Write.{Write}
@@ -26,6 +26,7 @@ use Rattle.fk_index.specs.Drafts.{Drafts, node_over, or_node, Grows, IsReady}
 use Rattle.fk_index.specs.Waiting.{is_lone, keeps_owner, may_wait, pended, step_after, Begins, Edits, EditsNone, Stands}
 use Rattle.fk_index.specs.declared.drafts.Step.{Step}
 use Rattle.fk_index.proofs.Parts.{nodes_step, slots_taken}
+use Rattle.fk_base.proofs.Logic.{and_left, by_test}
 
 pub over_same : (d : Drafts) (m n : Slots) → KeepSame m n → (p : PathNames) → node_over d n p ≡ node_over d m p
 over_same d m n k p = ap (λ x. or_node (tree.get path_cmp d p) (node_of x)) (k p)
@@ -139,11 +140,6 @@ placed_ready d n o q g r = record { places = λ s p l h. g s p (r.places s p l h
 -- more places change nothing that is ready
 pub still_ready : (d : Drafts) (m n : Slots) (o : Owners) → KeepSame m n → IsReady d m o → IsReady d n o
 still_ready d m n o k r = record { places = λ s p l h. r.places s p l (ap (is_of s) (sym (over_same d m n k p)) ∙ h); rising = rising_same d m n k r.rising }
-
--- THE EDIT THAT WAITS
-pub if_ok_so : {T E : Type 0} {P Q : T → Type 0} (r : Result T E) → IfOk r P → ((v : T) → P v → Q v) → IfOk r Q
-if_ok_so (Ok x) a f = f x a
-if_ok_so (Err x) a f = a
 
 -- it was made in the draft
 pub flushed_ready : (w : Option Step) (d f : Drafts) (n : Slots) (q : Owners) → IsReady d n q → may_wait d w ≡ true → ((p : PathNames) → node_over f n p ≡ pended w p (node_over d n p)) → IsReady f n q

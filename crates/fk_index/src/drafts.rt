@@ -10,7 +10,7 @@ ghost use Rattle.fk_index.specs.Slots.{node_of, record_at};
 
 use crate::slots::{Slots, record_at};
 use fk_base::{NoMemory, Path};
-use fk_tree::{Edit, Node, What, edit_sorted};
+use fk_tree::{Edit, Node, What, copy_node, edit_sorted};
 use std::collections::BTreeMap;
 
 /// The nodes that stand over those of the table, by their paths.
@@ -29,10 +29,7 @@ fn copy_of(slots: &Slots, path: &Path) -> Result<Option<Node>, NoMemory>
 {
     match record_at(slots, path) {
         None => Ok(None),
-        Some(kept) => match &kept.node {
-            None => Ok(None),
-            Some(node) => Ok(Some(node.copy()?)),
-        },
+        Some(kept) => copy_node(&kept.node),
     }
 }
 

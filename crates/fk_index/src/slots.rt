@@ -9,7 +9,7 @@ ghost use Rattle.fk_store.specs.Writes.{grant_record, release_record};
 ghost use Rattle.fk_index.specs.Parts.{edited_record, note_record, with_node};
 ghost use Rattle.fk_index.specs.Slots.{has_slot, node_of, record_at, IsChanged, KeepSame, KeepsSlots, SameSlots};
 
-use fk_base::{Bytes, Names, NoMemory, Path};
+use fk_base::{NoMemory, Path};
 use fk_store::{Lock, NodeRecord, UNLOCKED};
 use fk_tree::{Edit, Node, edit_sorted};
 use std::alloc::Global;
@@ -30,21 +30,8 @@ pub fn root_slots(alloc: Global) -> Result<Slots, NoMemory>
 fn root_record(alloc: Global) -> NodeRecord
     ensures { result ≡ root_record }
 {
-    let node = Node {
-        bytes: Bytes::new(alloc),
-        czxid: 0,
-        mzxid: 0,
-        pzxid: 0,
-        ctime: 0,
-        mtime: 0,
-        version: 0,
-        cversion: 0,
-        made: 0,
-        owner: 0,
-        names: Names::new(alloc),
-    };
     NodeRecord {
-        node: Some(node),
+        node: Some(Node::root(alloc)),
         lock: UNLOCKED,
         last: 0,
     }

@@ -10,7 +10,6 @@ use Rattle.fk_tree.specs.declared.applied.Applied.{Applied}
 use Rattle.fk_tree.specs.declared.request.Request.{Request}
 use Rattle.fk_tree.specs.declared.request.Request.TheVariants as request
 use Rattle.fk_tree.specs.Rows.{is_of}
-use Rattle.fk_tree.proofs.Order.{by_test}
 use Rattle.fk_tree.proofs.Looking.{same_flip}
 use Rattle.fk_print.specs.declared.entry.Entry.{Entry}
 use Rattle.fk_print.specs.declared.op.Op.{Op}
@@ -39,6 +38,7 @@ use Rattle.fk_law.proofs.Filling.{owned_has, not_none}
 use Rattle.fk_law.proofs.Leaving.{FitsLocked, commit_is}
 use Rattle.fk_law.proofs.Fitting.{seen, holder_agrees, pusher_fits, was_live, filled_on, pushed_one}
 use Rattle.fk_law.proofs.Editing.{one_applied}
+use Rattle.fk_base.proofs.Logic.{by_test}
 
 -- A follower's own filling. ---------------------------------------------------------------------------
 

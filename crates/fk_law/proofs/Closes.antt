@@ -51,7 +51,7 @@ pushed_step p e h (op.CommitOk a t) l d i =
     subst (λ z. AllAtMost (pushes_of h) (with_filled (committed_of p h) t z)) (sym c.is) ((push_bound p t h x.is_of.push l x.is_of.pushed).2, i)
 pushed_step p e h o l d i = i
 
-commits_were_pushed : (p : Plan) (h : List Entry) → IsHistory p h → AllAtMost (pushes_of h) (committed_of p h)
+pub commits_were_pushed : (p : Plan) (h : List Entry) → IsHistory p h → AllAtMost (pushes_of h) (committed_of p h)
 commits_were_pushed p [] l = tt
 commits_were_pushed p (e ∷ h) l = more_at_most (pushes_of h) (pushes_of (e ∷ h)) (committed_of p (e ∷ h)) (count_more (pushed_in 0 e.op) (pushes_of h)) (pushed_step p e h e.op l.0 (due p e h l) (commits_were_pushed p h l.0))
 

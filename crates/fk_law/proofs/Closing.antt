@@ -1,6 +1,7 @@
 -- Closed sessions.
 use Rattle.std.proofs.Common.{◌≡◌, ◌≢◌, ℕ, ◌+◌, ◌≤◌, Bool, false, List, [], ◌∷◌, refl, sym, ◌∙◌, ap, subst, arith, Option, Some, None}
 use Rattle.std.proofs.lemmas.Bool.Decides.{nat_tests}
+use Rattle.std.proofs.lemmas.Option.{same_Some}
 use Rattle.fk_tree.specs.declared.applied.Applied.{Applied}
 use Rattle.fk_tree.specs.declared.request.Request.{Request}
 use Rattle.fk_print.specs.declared.entry.Entry.{Entry}
@@ -116,15 +117,12 @@ closed_push_step p t n c k e h None b l i x s =
     let m = task_at_most_next p n c k h l.0 w.task in
     closed_keeps p c k e h l m s ∙ i w (settled_so p c k e h m s)
 closed_push_step p t n c k e h (Some y) b l i x s =
-    let f : y.function ≡ n = ap (λ z. z.function) (some_same y x.push (subst (λ o. or_else o (push_of t h) ≡ Some x.push) b x.pushed)) ∙ x.function in
+    let f : y.function ≡ n = ap (λ z. z.function) (same_Some y x.push (subst (λ o. or_else o (push_of t h) ≡ Some x.push) b x.pushed)) ∙ x.function in
     let g : e.op ≡ op.Push n t = new_push t h e.op y b ∙ ap (λ z. op.Push z t) f in
     let d : IsDue p h (op.Push n t) = subst (IsDue p h) g (due p e h l) in
     let w : task_of n h ≡ Some (Follows c k) = follower_same p n t c k e h l g d x.task in
     let m = task_at_most_next p n c k h l.0 w in
     closed_keeps p c k e h l m s ∙ pusher_open p t n c k h l.0 d w (settled_so p c k e h m s)
-  where
-    some_same : (y z : Push) → Some y ≡ Some z → y ≡ z
-    some_same y z e = cc
 
 pub closed_push : (p : Plan) (t n c k : ℕ) (h : List Entry) → IsHistory p h → IsPushOf t n c k h → settled_of c h + 1 ≡ k → (stored_view p h).closed c ≡ false
 closed_push p t n c k [] l x s = refl

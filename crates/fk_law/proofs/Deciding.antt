@@ -2,6 +2,7 @@
 use Rattle.std.proofs.Common.{◌≡◌, ℕ, suc, ◌+◌, ◌≤◌, ◌++◌, ◌⊎◌, inl, inr, true, false, List, [], ◌∷◌, length, append_assoc, refl, sym, ◌∙◌, ap, subst, arith, Option, Some, None}
 use Rattle.std.proofs.lemmas.Bool.{cond_both}
 use Rattle.std.proofs.lemmas.Bool.Decides.{nat_tests}
+use Rattle.std.proofs.lemmas.Option.{same_Some}
 use Rattle.fk_base.specs.Path.{PathNames, parent}
 use Rattle.fk_tree.specs.Check.{Refusal, check}
 use Rattle.fk_tree.specs.Edit.{closes}
@@ -16,7 +17,7 @@ use Rattle.fk_spec.specs.Plan.{Plan, item_after}
 use Rattle.fk_spec.specs.Start.{seen_with, seen_from, request_of, sends_of}
 use Rattle.fk_spec.specs.Settling.{settled_in, settled_of, last_of_session}
 use Rattle.fk_spec.specs.Stored.{committed_of, owned_after}
-use Rattle.fk_spec.specs.Follower.{Follower, Granted, begin, node_in, view_of, refusal_number, next_stage, next_with, to_lock, to_begin, with_granted, paths_of}
+use Rattle.fk_spec.specs.Follower.{Follower, Granted, node_in, view_of, next_stage, next_with, to_lock, to_begin, with_granted, paths_of}
 use Rattle.fk_spec.specs.Follower as follower
 use Rattle.fk_spec.specs.Function.{Following, place_of, actor}
 use Rattle.fk_spec.specs.Next.{IsHistory}
@@ -54,10 +55,7 @@ left_over gs ps zs e = rw (e, sym (length_paths gs)) (after_all (paths_of gs) zs
 
 pub first_left : (zs : List PathNames) (p : PathNames) → item_after zs 0 ≡ Some p → (ws : List PathNames) × (zs ≡ p ∷ ws)
 first_left [] p e = absurd (grind arith)
-first_left (z ∷ zs) p e = (zs, ap (λ x. x ∷ zs) (some_same z p e))
-  where
-    some_same : (a b : PathNames) → Some a ≡ Some b → a ≡ b
-    some_same a b e = cc
+first_left (z ∷ zs) p e = (zs, ap (λ x. x ∷ zs) (same_Some z p e))
 
 pub none_left : (zs : List PathNames) → item_after zs 0 ≡ None → zs ≡ []
 none_left [] e = refl

@@ -14,7 +14,7 @@ use Rattle.fk_tree.specs.declared.applied.Applied.{Applied}
 use Rattle.fk_tree.specs.declared.request.Request.{Request}
 use Rattle.fk_tree.specs.declared.request.Request.TheVariants as request
 use Rattle.fk_tree.specs.Rows.{is_of}
-use Rattle.fk_tree.proofs.Order.{and_left, and_right, by_test, same_path_is}
+use Rattle.fk_tree.proofs.Order.{same_path_is}
 use Rattle.fk_tree.proofs.Passing.{passed_open, placed_none}
 use Rattle.fk_law_tree.specs.Editors.{is_edited}
 use Rattle.fk_law_tree.specs.Fitting.{GoneIs, Fits}
@@ -29,6 +29,7 @@ use Rattle.fk_law_tree.proofs.Passing.{CreatePasses, passed_create}
 use Rattle.fk_law_tree.proofs.Reading.{check_reads}
 use Rattle.fk_spec.specs.Start.{Pushed}
 use Rattle.fk_spec.specs.Stored.{owned_among, all_edited, owned_after, gone_after, filled_after}
+use Rattle.fk_base.proofs.Logic.{and_left, and_right, by_test}
 
 -- The nodes of a session. -----------------------------------------------------------------------------
 

@@ -3,6 +3,7 @@ use Rattle.std.specs.Prelude.{◌||◌}
 use Rattle.std.proofs.Common.{◌≡◌, ◌≢◌, ℕ, ◌+◌, ◌++◌, Bool, true, false, List, [], ◌∷◌, refl, sym, ◌∙◌, ap, subst, arith, Option, Some, None, append-nil}
 use Rattle.std.proofs.lemmas.Bool.{false≢true, or_right, or_parts}
 use Rattle.std.proofs.lemmas.Bool.Decides.{nat_tests}
+use Rattle.std.proofs.lemmas.Option.{same_Some}
 use Rattle.fk_base.specs.Path.{PathNames, same_path}
 use Rattle.fk_tree.specs.Edit.{view_after}
 use Rattle.fk_tree.specs.Locks.{lock_paths}
@@ -11,7 +12,7 @@ use Rattle.fk_tree.specs.Touch.{edited_paths}
 use Rattle.fk_tree.specs.declared.applied.Applied.{Applied}
 use Rattle.fk_tree.specs.declared.request.Request.{Request}
 use Rattle.fk_tree.specs.declared.request.Request.TheVariants as request
-use Rattle.fk_tree.proofs.Order.{by_test, same_path_is, same_path_self}
+use Rattle.fk_tree.proofs.Order.{same_path_is, same_path_self}
 use Rattle.fk_tree.proofs.Looking.{same_flip}
 use Rattle.fk_print.specs.declared.entry.Entry.{Entry}
 use Rattle.fk_print.specs.declared.op.Op.{Op}
@@ -49,6 +50,7 @@ use Rattle.fk_law.proofs.Standing.{OnStanding}
 use Rattle.fk_law.proofs.Leaving.{FitsLocked, Sees, Lists, IsSeen, IsCommit, commit_is, other_session}
 use Rattle.fk_law.proofs.Seeing.{sees_step, lists_step}
 use Rattle.fk_law_tree.proofs.Members.{or_left}
+use Rattle.fk_base.proofs.Logic.{by_test}
 
 -- A push that was live before. ------------------------------------------------------------------------
 
@@ -212,11 +214,8 @@ pushes_step p t e h y None b l s x q =
     let z = push_bound p t h x.is_of.push l.0 (subst (λ o. or_else o (push_of t h) ≡ Some x.is_of.push) b x.is_of.pushed) in
     still_fits p t e h y l s x q (its_push_before p t x.function x.session x.k e h l z.1 z.2 x.is_of)
 pushes_step p t e h y (Some u) b l s x q =
-    let f : u.function ≡ x.function = ap (λ z. z.function) (some_same u x.is_of.push (subst (λ o. or_else o (push_of t h) ≡ Some x.is_of.push) b x.is_of.pushed)) ∙ x.is_of.function in
+    let f : u.function ≡ x.function = ap (λ z. z.function) (same_Some u x.is_of.push (subst (λ o. or_else o (push_of t h) ≡ Some x.is_of.push) b x.is_of.pushed)) ∙ x.is_of.function in
     new_fits p t x.function x.session x.k e h y l s (new_push t h e.op u b ∙ ap (λ z. op.Push z t) f) x.is_of x.next x.own q
-  where
-    some_same : (a d : Push) → Some a ≡ Some d → a ≡ d
-    some_same a d i = cc
 
 pub seen : (p : Plan) (h : List Entry) → IsHistory p h → IsSeen p h
 seen p [] l = record { views = λ n. tt; lists = λ n. tt; pushes = λ t x y q. absurd (unpushed t x.is_of.push x.is_of.pushed) }

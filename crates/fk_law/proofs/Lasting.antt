@@ -11,7 +11,6 @@ use Rattle.fk_tree.specs.Sorted.{has_path}
 use Rattle.fk_tree.specs.Touch.{edited_paths}
 use Rattle.fk_tree.specs.declared.applied.Applied.{Applied}
 use Rattle.fk_tree.specs.declared.request.Request.{Request}
-use Rattle.fk_tree.proofs.Order.{by_test}
 use Rattle.fk_print.specs.declared.entry.Entry.{Entry}
 use Rattle.fk_print.specs.declared.op.Op.{Op}
 use Rattle.fk_print.specs.declared.op.Op.TheVariants as op
@@ -44,6 +43,7 @@ use Rattle.fk_law.proofs.Fitting.{seen, was_live}
 use Rattle.fk_law.proofs.Numbering.{closed_apart}
 use Rattle.fk_law.proofs.Refusing.{IsRefused, refused_holds, seen_refusal, own_each, closed_refusal, closed_at_its_number, closed_on}
 use Rattle.fk_law.proofs.Closes.{count_more}
+use Rattle.fk_base.proofs.Logic.{by_test}
 
 -- Each live push up to the refusal's number is of another session, and its function wasn't granted any of
 -- the paths.

@@ -8,7 +8,6 @@ use Rattle.fk_tree.specs.Touch.{edited_paths}
 use Rattle.fk_tree.specs.declared.applied.Applied.{Applied}
 use Rattle.fk_tree.specs.declared.request.Request.{Request}
 use Rattle.fk_tree.specs.Rows.{is_of}
-use Rattle.fk_tree.proofs.Order.{by_test}
 use Rattle.fk_print.specs.declared.entry.Entry.{Entry}
 use Rattle.fk_print.specs.declared.op.Op.{Op}
 use Rattle.fk_print.specs.declared.op.Op.TheVariants as op
@@ -33,6 +32,7 @@ use Rattle.fk_law.proofs.Settled.{session_of_its_push}
 use Rattle.fk_law.proofs.Living.{committer_is_live}
 use Rattle.fk_law.proofs.Sending.{push_asks_for_its_request}
 use Rattle.fk_law.proofs.Rising.{own_same}
+use Rattle.fk_base.proofs.Logic.{by_test}
 
 -- push t of function n, filled from what the commits left, fits that and edits what the function was granted
 abbrev pub FitsLocked : Plan → ℕ → ℕ → List Entry → Pushed → Type 0

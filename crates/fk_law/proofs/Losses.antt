@@ -3,6 +3,7 @@ use Rattle.std.specs.Prelude.{◌==◌, ◌||◌, ◌&&◌}
 use Rattle.std.proofs.Common.{◌≡◌, ◌≢◌, ℕ, ◌+◌, Bool, true, false, cond, List, [], ◌∷◌, refl, sym, ◌∙◌, ap, subst, arith, Option, Some, None}
 use Rattle.std.proofs.lemmas.Bool.{false≢true, or_right, lt-ltb}
 use Rattle.std.proofs.lemmas.Bool.Decides.{nat_tests}
+use Rattle.std.proofs.lemmas.Option.{same_Some}
 use Rattle.fk_base.specs.Path.{PathNames, same_path}
 use Rattle.fk_tree.specs.Sorted.{has_path}
 use Rattle.fk_tree.proofs.Order.{same_path_self}
@@ -90,10 +91,7 @@ abbrev HasLater : ℕ → Loss → List Entry → Type 0
 HasLater n x h = granted_later n x.path x.own x.found x.moment h ≡ true
 
 line_found : (p : Plan) (n : ℕ) (h : List Entry) (path : PathNames) (holder moment : ℕ) (x : Loss) → IsLateFind p n h (record { path = path; holder = holder; moment = moment }) → Some (record { path = path; own = own_moment n path h; found = holder; moment = moment }) ≡ Some x → HasLater n x h
-line_found p n h path holder moment x i e = let g = found_later n path holder moment h i.2 i.3 i.0 in let f = some_same _ x e in subst (λ z. HasLater n z h) f g
-  where
-    some_same : (y z : Loss) → Some y ≡ Some z → y ≡ z
-    some_same y z e = cc
+line_found p n h path holder moment x i e = let g = found_later n path holder moment h i.2 i.3 i.0 in let f = same_Some _ x e in subst (λ z. HasLater n z h) f g
 
 line_step : (p : Plan) (n c k : ℕ) (x : Loss) (h : List Entry) (o : Op) → IsHistory p h → IsDue p h o → task_of n h ≡ Some (Follows c k) → (loss_of n h ≡ Some x → HasLater n x h) → loss_in n h o (loss_of n h) ≡ Some x → HasLater n x h
 line_step p n c k x h (op.CommitLock m t path holder moment) l d b i e = by_test (m == n) refl
@@ -175,11 +173,9 @@ lost_new p c k x e h l i s = record {
     t : task_of i.function h ≡ Some (Follows d.0.session d.0.k)
     t = follower_task p i.function h d.0 l.0 d.1
 
-    some_same : (a b : ℕ) → Some a ≡ Some b → a ≡ b
-    some_same a b e = cc
 
     f : d.0.session ≡ c
-    f = some_same d.0.session c (sym (ap session_followed t) ∙ i.session)
+    f = same_Some d.0.session c (sym (ap session_followed t) ∙ i.session)
 
     n : d.0.k ≡ k
     n = sym d.3 ∙ ap (λ z. settled_of z h + 1) f ∙ s

@@ -8,7 +8,6 @@ use Rattle.fk_tree.specs.Edit.{after, view_after}
 use Rattle.fk_tree.specs.Sorted.{has_path}
 use Rattle.fk_tree.specs.Touch.{edited_paths}
 use Rattle.fk_tree.specs.declared.applied.Applied.{Applied}
-use Rattle.fk_tree.proofs.Order.{by_test}
 use Rattle.fk_print.specs.declared.entry.Entry.{Entry}
 use Rattle.fk_print.specs.declared.op.Op.{Op}
 use Rattle.fk_print.specs.declared.op.Op.TheVariants as op
@@ -30,6 +29,7 @@ use Rattle.fk_law.proofs.Leaving.{commit_is}
 use Rattle.fk_law.proofs.Beyond.{commits_rise}
 use Rattle.fk_law.proofs.Numbering.{IsKnown, AllKnown, all_known}
 use Rattle.fk_law.proofs.Closes.{commit_fits_at_its_number}
+use Rattle.fk_base.proofs.Logic.{by_test}
 
 -- Each number once. -----------------------------------------------------------------------------------
 

@@ -9,7 +9,6 @@ use Rattle.fk_tree.specs.Sorted.{has_path}
 use Rattle.fk_tree.specs.Touch.{edited_paths}
 use Rattle.fk_tree.specs.View.{View}
 use Rattle.fk_tree.specs.declared.applied.Applied.{Applied}
-use Rattle.fk_tree.proofs.Order.{by_test}
 use Rattle.fk_law_tree.specs.Fitting.{Fits}
 use Rattle.fk_law_tree.specs.Locking.{ListsOwned}
 use Rattle.fk_law_tree.proofs.Counting.{unedited_stays}
@@ -17,6 +16,7 @@ use Rattle.fk_law_tree.proofs.Holding.{fits_by_its_edits}
 use Rattle.fk_law_tree.proofs.Parting.{fits_after_others}
 use Rattle.fk_spec.specs.Stored.{applied_as, last_editor, up_to}
 use Rattle.fk_law.specs.Numbering.{last_in, IsNewest, AllNewest}
+use Rattle.fk_base.proofs.Logic.{by_test}
 
 test_not : (a b : ℕ) → b < a → nat_le a b ≡ false
 test_not a b e = grind (arith, nat_tests)

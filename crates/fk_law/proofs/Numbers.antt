@@ -1,7 +1,6 @@
 -- Comparing numbers.
-use Rattle.std.specs.Prelude.{◌==◌, nat_le}
-use Rattle.std.proofs.Common.{◌≡◌, ℕ, ◌<◌, ◌≤◌, Bool, true, false, refl, arith}
-use Rattle.std.proofs.lemmas.Bool.Decides.{nat_tests}
+use Rattle.std.specs.Prelude.{nat_le}
+use Rattle.std.proofs.Common.{◌≡◌, ℕ, ◌<◌, ◌≤◌, Bool, true, false, refl}
 use Rattle.std.proofs.lemmas.Bool.{leb-true, leb-false}
 
 pub less_or_not : (a b : ℕ) → (b ≤ a → ⊥) → a < b
@@ -10,6 +9,3 @@ less_or_not a b f = by_test (nat_le b a) refl
     by_test : (c : Bool) → nat_le b a ≡ c → a < b
     by_test true e = absurd (f (leb-true b a e))
     by_test false e = leb-false b a e
-
-pub itself : (n : ℕ) → (n == n) ≡ true
-itself n = grind (arith, nat_tests)

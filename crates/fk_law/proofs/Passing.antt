@@ -91,7 +91,7 @@ loss_step p n c k x h (op.RefuseLock m code place at path holder moment) l d b i
     by_test false f = i (grind arith)
 loss_step p n c k x h o l d b i e = i (grind arith)
 
-starts_grow : (o : Option Start) (n : ℕ) → n ≤ count_start o n
+pub starts_grow : (o : Option Start) (n : ℕ) → n ≤ count_start o n
 starts_grow o n = grind arith
 
 committer_stands : (n t m c k : ℕ) (h : List Entry) (x : Place) → Commits n t m c k h x → is_absent x ≡ false

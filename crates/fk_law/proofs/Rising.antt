@@ -3,6 +3,7 @@ use Rattle.std.specs.Prelude.{◌||◌, nat_le}
 use Rattle.std.proofs.Common.{◌≡◌, ◌≢◌, ℕ, ◌+◌, ◌<◌, ◌≤◌, ◌++◌, Bool, true, false, List, [], ◌∷◌, refl, sym, ◌∙◌, ap, subst, arith, Option, Some, None}
 use Rattle.std.proofs.lemmas.Bool.{false≢true, leb-true, leb-false}
 use Rattle.std.proofs.lemmas.Bool.Decides.{nat_tests}
+use Rattle.std.proofs.lemmas.Option.{same_Some}
 use Rattle.fk_base.specs.Path.{PathNames}
 use Rattle.fk_tree.specs.Sorted.{has_path}
 use Rattle.fk_print.specs.declared.entry.Entry.{Entry}
@@ -111,11 +112,9 @@ its_push_before p t n c k e h l a b i = record { push = x.0; pushed = x.1; funct
     r : (d j : ℕ) × (task_of x.0.function h ≡ Some (Follows d j))
     r = push_request p t h x.0 l.0 x.1
 
-    some_same : (y z : Push) → Some y ≡ Some z → y ≡ z
-    some_same y z e = cc
 
     f : x.0.function ≡ n
-    f = ap (λ y. y.function) (some_same x.0 i.push (sym (push_stays p t e h x.0 l x.1) ∙ i.pushed)) ∙ i.function
+    f = ap (λ y. y.function) (same_Some x.0 i.push (sym (push_stays p t e h x.0 l x.1) ∙ i.pushed)) ∙ i.function
 
     w : task_of n h ≡ Some (Follows r.0 r.1)
     w = subst (λ y. task_of y h ≡ Some (Follows r.0 r.1)) f r.2

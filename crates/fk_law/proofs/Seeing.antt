@@ -11,7 +11,7 @@ use Rattle.fk_tree.specs.declared.node.Node.{Node}
 use Rattle.fk_tree.specs.declared.request.Request.{Request}
 use Rattle.fk_tree.specs.declared.request.Request.TheVariants as request
 use Rattle.fk_tree.specs.Rows.{is_of}
-use Rattle.fk_tree.proofs.Order.{path_total, path_exact, and_left, and_right, by_test, same_path_is, same_path_self, child_parts, child_apart}
+use Rattle.fk_tree.proofs.Order.{path_total, path_exact, same_path_is, same_path_self, child_parts, child_apart}
 use Rattle.fk_tree.proofs.Rising.{below_absent}
 use Rattle.fk_tree.proofs.Looking.{same_flip}
 use Rattle.fk_print.specs.declared.entry.Entry.{Entry}
@@ -46,6 +46,7 @@ use Rattle.fk_law.proofs.Deciding.{StandsSo, stands_at, in_order_of, left_over, 
 use Rattle.fk_law.proofs.Recording.{granted_after}
 use Rattle.fk_law.proofs.Filling.{owned_has, not_none}
 use Rattle.fk_law.proofs.Leaving.{Sees, Lists, IsSeen, Leaves, leaves, owned_back}
+use Rattle.fk_base.proofs.Logic.{and_left, and_right, by_test}
 
 -- No path is locked twice. ----------------------------------------------------------------------------
 

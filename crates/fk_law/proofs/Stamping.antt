@@ -8,7 +8,7 @@ use Rattle.fk_tree.specs.Edit.{edited, effects, view_after}
 use Rattle.fk_tree.specs.Sorted.{has_path}
 use Rattle.fk_tree.specs.Touch.{edited_paths}
 use Rattle.fk_tree.specs.declared.applied.Applied.{Applied}
-use Rattle.fk_tree.proofs.Order.{by_test, same_path_is}
+use Rattle.fk_tree.proofs.Order.{same_path_is}
 use Rattle.fk_tree.proofs.Looking.{same_flip}
 use Rattle.fk_print.specs.declared.entry.Entry.{Entry}
 use Rattle.fk_print.specs.declared.op.Op.{Op}
@@ -34,6 +34,7 @@ use Rattle.fk_law.proofs.Leaving.{commit_is}
 use Rattle.fk_law.proofs.Printing.{published_none}
 use Rattle.fk_law.proofs.Numbered.{AllOnce, all_once}
 use Rattle.fk_law.proofs.Publishing.{published_tree_is_shown}
+use Rattle.fk_base.proofs.Logic.{by_test}
 
 -- Stamps. ---------------------------------------------------------------------------------------------
 

@@ -16,7 +16,7 @@ use Rattle.fk_spec.specs.Client.{client_in}
 use Rattle.fk_law.specs.Functions.{IsFor, TellerWorksAtOrBelowTheHead}
 use Rattle.fk_law.proofs.Due.{due}
 use Rattle.fk_law.proofs.Moving.{place_step, moved_follower, moved_leader}
-use Rattle.fk_law.proofs.Numbers.{itself}
+use Rattle.fk_base.proofs.Logic.{itself}
 
 -- tasks ----------------------------------------------------------------------------------------------
 

@@ -1,5 +1,6 @@
 -- A request whose lock passed on has the lines that show it.
-use Rattle.std.specs.Prelude.{is_some, None, ◌≡◌, ℕ, ◌+◌, nat_lt, true, List, Some}
+use Rattle.std.specs.Prelude.{is_some, None, ◌≡◌, ℕ, true, List, Some}
+use Rattle.fk_base.specs.Times.{has_passed}
 use Rattle.fk_print.specs.declared.entry.Entry.{Entry}
 use Rattle.fk_spec.specs.Plan.{Plan}
 use Rattle.fk_spec.specs.Start.{Follows, task_of}
@@ -15,7 +16,7 @@ use Rattle.fk_spec.specs.Next.{IsHistory}
 -- function n found this
 pub record IsShownLost (p : Plan) (n : ℕ) (x : Loss) (h : List Entry) : Type 0 where
   pub passed : granted_later n x.path x.own x.found x.moment h ≡ true
-  pub beyond : nat_lt (x.own + p.lock) x.moment ≡ true
+  pub beyond : has_passed p.lock x.own x.moment ≡ true
   pub missed : has_missed n x.path x.found x.moment h ≡ true
 
 -- What a follower found at its last miss of a lock has its lines.

@@ -11,7 +11,6 @@ use Rattle.fk_tree.specs.declared.reply.Answer.{Answer}
 use Rattle.fk_tree.specs.declared.reply.Answer.TheVariants as answer
 use Rattle.fk_tree.specs.declared.reply.Reply.{Reply}
 use Rattle.fk_tree.specs.declared.reply.Reply.TheVariants as reply
-use Rattle.fk_tree.proofs.Order.{and_right}
 use Rattle.fk_print.specs.declared.entry.Entry.{Entry}
 use Rattle.fk_print.specs.declared.line.Line.{Line}
 use Rattle.fk_print.specs.declared.line.Line.TheVariants as line
@@ -33,6 +32,7 @@ use Rattle.fk_spec.specs.Next.{IsHistory, next_lines, lines_of_client, tx_lines}
 use Rattle.fk_law_watch.proofs.Reading.{next_is}
 use Rattle.fk_law_client.specs.Unfit.{UnfitIsRefused, UnfitCommandsAreRefused}
 use Rattle.fk_law_client.proofs.Acting.{ActsAs, IsLooked, ReadsTree, entry_acts}
+use Rattle.fk_base.proofs.Logic.{and_right}
 
 abbrev AllFit : Plan → List Line → Type 0
 AllFit p [] = Unit {0}

@@ -3,7 +3,6 @@ use Rattle.std.specs.Prelude.{◌==◌, ◌&&◌, if◌then◌else◌}
 use Rattle.std.proofs.Common.{◌≡◌, ℕ, ◌+◌, ◌++◌, ◌⊎◌, inl, inr, Bool, true, false, List, [], ◌∷◌, refl, sym, ◌∙◌, ap, subst, Option, Some, None}
 use Rattle.std.proofs.lemmas.Bool.{false≢true, cond_both, eqb-true}
 use Rattle.fk_base.specs.declared.code.Code.TheVariants as code
-use Rattle.fk_tree.proofs.Order.{and_right}
 use Rattle.fk_print.specs.declared.entry.Entry.{Entry}
 use Rattle.fk_print.specs.declared.op.Op.{Op}
 use Rattle.fk_print.specs.declared.op.Op.TheVariants as op
@@ -14,7 +13,7 @@ use Rattle.fk_spec.specs.Sight.{sight_of}
 use Rattle.fk_spec.specs.Client.{acted_by, by_result, client_by, client_in, client_of, close_if, flushed, is_close, is_open, is_ready, is_unfit, kept_outcome, local_result, looked, looked_at, looked_for, registers, settle_with, settled_as, with_told, without_ready, Client, Open, Plain, Reading, Sent, Settled}
 use Rattle.fk_law_client.specs.Lines.{IsAmong}
 use Rattle.fk_law_client.specs.Kept.{KeptFrom, Before, Told, Begun, KeptCommandsHaveTheirSource}
-use Rattle.fk_law.proofs.Numbers.{itself}
+use Rattle.fk_base.proofs.Logic.{and_right, itself}
 
 -- A client after an entry is as it was, or as its own operation leaves it.
 pub client_after : (p : Plan) (c : ℕ) (e : Entry) (h : List Entry) (P : Client Sent → Type 0) → P (client_of p c h) → (client_in e.op ≡ Some c → P (flushed by_result (acted_by (sight_of p c h) e.op (client_of p c h)))) → P (client_of p c (e ∷ h))

@@ -88,7 +88,7 @@ first_are p c i n h o (s ∷ ss) e f q b = ((refl, refl, Looked (by_number (numb
       shows = refl;
     }
 
-none_sent_sought : (ss : List Sent) (t : Target) → ss ≡ [] → target_sent by_result ss ≡ Some t → ⊥
+pub none_sent_sought : (ss : List Sent) (t : Target) → ss ≡ [] → target_sent by_result ss ≡ Some t → ⊥
 none_sent_sought [] t e q = none-some t q
 none_sent_sought (s ∷ ss) t e q = grind arith
 

@@ -21,9 +21,9 @@ use Rattle.fk_law_watch.proofs.Reading.{next_is}
 use Rattle.fk_law_client.specs.Operations.{OperationSays}
 use Rattle.fk_law_client.proofs.Kept.{client_after}
 use Rattle.fk_law_client.proofs.Operating.{client_operations_say}
-use Rattle.fk_law.proofs.Numbers.{itself}
 use Rattle.fk_law.proofs.Printing.{lines_are}
 use Rattle.fk_law_drain.specs.Answering.{keeps_command, BegunAreAnsweredOrKept}
+use Rattle.fk_base.proofs.Logic.{itself}
 
 -- the lines of an operation, `own` and then `ready`; the entries before, `old`; what stays kept
 regrouped : (own ready old kept : Bool) → (((own || ready) || old) || kept) ≡ ((own || old) || (ready || kept))

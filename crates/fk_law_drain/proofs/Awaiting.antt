@@ -35,9 +35,9 @@ use Rattle.fk_law_client.specs.Tracking.{AreTracked, IsSentSo, IsSentWith, later
 use Rattle.fk_law_client.proofs.Kept.{among_unready, kept_commands_have_their_source}
 use Rattle.fk_law_client.proofs.Operating.{client_operations_say}
 use Rattle.fk_law_client.proofs.Tracking.{sent_tracked}
-use Rattle.fk_law.proofs.Numbers.{itself}
 use Rattle.fk_law_reply.specs.Plans.{HasFittingVerbs}
 use Rattle.fk_law_drain.specs.Delivering.{IsReplied, awaits_outcome, is_outcome_told, tells_outcome}
+use Rattle.fk_base.proofs.Logic.{itself}
 
 -- What is awaited. -------------------------------------------------------------------------------------
 

@@ -23,7 +23,6 @@ use Rattle.fk_spec.specs.Sight.{sight_of}
 use Rattle.fk_spec.specs.Client.{acted_by, by_result, client_by, client_in, client_of, close_if, flushed, is_close, is_open, is_ready, kept_outcome, looked, looked_at, looked_for, number_looked_for, number_read, path_read, path_wanted, registers, settle_with, settled_as, target_of, target_sent, target_with, with_told, without, without_ready, Client, Expired, Open, Plain, Reading, Result, Sent, Settled, Target}
 use Rattle.fk_spec.specs.Next.{IsHistory}
 use Rattle.fk_law.specs.Due.{IsDue}
-use Rattle.fk_law.proofs.Numbers.{itself}
 use Rattle.fk_law.proofs.Sending.{committed_is_filled}
 use Rattle.fk_law.proofs.Stamping.{published_are_stamped}
 use Rattle.fk_law_tree.proofs.Touching.{touch_paths}
@@ -39,6 +38,10 @@ use Rattle.fk_law_drain.proofs.Awaiting.{takes_now}
 use Rattle.fk_law_drain.proofs.Holding.{no_look_is_held}
 use Rattle.fk_law_drain.proofs.Looking.{committed_is_published, looked_for_is_published}
 use Rattle.fk_law_drain.proofs.Turning.{IsTurnOf}
+use Rattle.fk_base.proofs.Logic.{itself}
+use Rattle.fk_law_client.proofs.Kept.{own_client}
+use Rattle.fk_law_client.proofs.Lines.{none_sent_sought}
+use Rattle.fk_law_reply.proofs.Ledger.{own_begun}
 
 -- Outcomes. --------------------------------------------------------------------------------------------
 
@@ -115,9 +118,6 @@ read_stays p d c e h (Some r) q b =
 
 -- Own turns. -------------------------------------------------------------------------------------------
 
-own_client : (p : Plan) (c : ℕ) (e : Entry) (h : List Entry) → client_in e.op ≡ Some c → client_of p c (e ∷ h) ≡ flushed by_result (acted_by (sight_of p c h) e.op (client_of p c h))
-own_client p c e h q = subst (λ z. client_by (sight_of p c h) z e.op (client_of p c h) ≡ flushed by_result (acted_by (sight_of p c h) e.op (client_of p c h))) (sym q) (ap (λ b. if b then flushed by_result (acted_by (sight_of p c h) e.op (client_of p c h)) else client_of p c h) (itself c))
-
 -- what it weighs, with what it keeps before it prints what is ready
 abbrev acted_weight : Plan → ℕ → Entry → List Entry → Client Sent → ℕ
 acted_weight p c e h y = 40 * length (inbox_of p c (e ∷ h)) + 20 * length y.owed + 8 * outcomes_of y.sent + read_left p c (e ∷ h) y.reading
@@ -136,9 +136,6 @@ pub data TurnFalls (p : Plan) (c : ℕ) (e : Entry) (h : List Entry) : Type 0 wh
   BeginsMore : (client_of p c h).begun < length (asks_in p c) → (client_of p c (e ∷ h)).begun ≡ (client_of p c h).begun + 1 → TurnFalls p c e h
   HasLess : NoSend e.op → (client_of p c (e ∷ h)).begun ≡ (client_of p c h).begun → client_weight p (e ∷ h) c < client_weight p h c → TurnFalls p c e h
 
-begun_is : (p : Plan) (c : ℕ) (e : Entry) (h : List Entry) (o : Op) → e.op ≡ o → client_in o ≡ Some c → (client_of p c (e ∷ h)).begun ≡ (acted_by (sight_of p c h) o (client_of p c h)).begun
-begun_is p c e h o q f = ap (λ z. z.begun) (own_client p c e h (ap client_in q ∙ f)) ∙ ap (λ z. (acted_by (sight_of p c h) z (client_of p c h)).begun) q
-
 asked_below : (xs : List Ask) (n : ℕ) (a : Ask) → nth xs (n + 1) ≡ Some a → n < length xs
 asked_below xs n a e = below xs n (subst (λ z. nth xs z ≡ Some a) one_more e)
   where
@@ -151,10 +148,10 @@ asked_below xs n a e = below xs n (subst (λ z. nth xs z ≡ Some a) one_more e)
     below (y ∷ ys) (suc m) e = let b = below ys m e in omega (arith, b)
 
 begins : (p : Plan) (c i : ℕ) (e : Entry) (h : List Entry) (a : Ask) (o : Op) → e.op ≡ o → client_in o ≡ Some c → i ≡ (client_of p c h).begun + 1 → asked p c i ≡ Some a → (acted_by (sight_of p c h) o (client_of p c h)).begun ≡ (client_of p c h).begun + 1 → TurnFalls p c e h
-begins p c i e h a o q f n g b = BeginsMore (asked_below (asks_in p c) (client_of p c h).begun a (subst (λ z. asked p c z ≡ Some a) n g)) (begun_is p c e h o q f ∙ b)
+begins p c i e h a o q f n g b = BeginsMore (asked_below (asks_in p c) (client_of p c h).begun a (subst (λ z. asked p c z ≡ Some a) n g)) (own_begun p c e h o q f ∙ b)
 
 has_less : (p : Plan) (c : ℕ) (e : Entry) (h : List Entry) (o : Op) → NoSend o → e.op ≡ o → client_in o ≡ Some c → (acted_by (sight_of p c h) o (client_of p c h)).begun ≡ (client_of p c h).begun → acted_weight p c e h (acted_by (sight_of p c h) o (client_of p c h)) < client_weight p h c → TurnFalls p c e h
-has_less p c e h o k q f b l = HasLess (subst NoSend (sym q) k) (begun_is p c e h o q f ∙ b) (let a = weight_most p c e h (ap client_in q ∙ f) in let m = subst (λ z. acted_weight p c e h (acted_by (sight_of p c h) z (client_of p c h)) < client_weight p h c) (sym q) l in omega (arith, a, m))
+has_less p c e h o k q f b l = HasLess (subst NoSend (sym q) k) (own_begun p c e h o q f ∙ b) (let a = weight_most p c e h (ap client_in q ∙ f) in let m = subst (λ z. acted_weight p c e h (acted_by (sight_of p c h) z (client_of p c h)) < client_weight p h c) (sym q) l in omega (arith, a, m))
 
 -- Inboxes. ---------------------------------------------------------------------------------------------
 
@@ -214,9 +211,6 @@ looked_outcomes p c h (s ∷ ss) x t e q = closing (is_close (asked p c s.comman
     closing true = less
     closing false = less
 
-nothing_sought : (ss : List Sent) (t : Target) → ss ≡ [] → target_sent by_result ss ≡ Some t → ⊥
-nothing_sought ss t e q = none-some t (subst (λ z. target_sent by_result z ≡ Some t) e q)
-
 -- a look that is ok prints the line of a command that was sent, or it comes to the read
 look_falls : (p : Plan) (c d i m : ℕ) (e : Entry) (h : List Entry) → HasFittingVerbs p → IsHistory p (e ∷ h) → e.op ≡ op.LookOk d i m → d ≡ c → LooksFor p c i h → (r : Option Reading) → (client_of p c h).reading ≡ r → TurnFalls p c e h
 look_falls p c d i m e h v l q g f None n =
@@ -254,7 +248,7 @@ look_falls p c d i m e h v l q g f (Some r) n = by_looked r.looked refl
         (subst (λ b. acted_weight p c e h (looked_at b r x) < client_weight p h c) (sym w) lighter))
       where
         begun : (client_of p c (e ∷ h)).begun ≡ x.begun
-        begun = begun_is p c e h (op.LookOk d i m) q (ap Some g) ∙ subst (λ z. (looked by_result (asks_in p c) z x).begun ≡ x.begun) (sym n) (ap (λ b. (looked_at b r x).begun) w)
+        begun = own_begun p c e h (op.LookOk d i m) q (ap Some g) ∙ subst (λ z. (looked by_result (asks_in p c) z x).begun ≡ x.begun) (sym n) (ap (λ b. (looked_at b r x).begun) w)
 
         sooner : read_left p c (e ∷ h) (Some (record r { looked = true })) + 1 ≤ read_left p c (e ∷ h) (Some r)
         sooner = subst (λ b. read_left p c (e ∷ h) (Some (record r { looked = true })) + 1 ≤ (if nat_lt (number_read (seen_by c (e ∷ h)) r) (last_sweep p (path_read (asked p c ((client_of p c (e ∷ h)).begun + 1))) (e ∷ h)) then 3 else 0) + (if b then 1 else 2)) (sym u) (omega arith)
@@ -269,7 +263,7 @@ look_falls p c d i m e h v l q g f (Some r) n = by_looked r.looked refl
             omega (arith, s, y, z, w)
 
     by_looked : (b : Bool) → r.looked ≡ b → TurnFalls p c e h
-    by_looked true u = absurd (nothing_sought x.sent (record { command = i; number = f.number }) none_sent (subst (λ b. (if b then target_sent by_result x.sent else Some (record { command = x.begun + 1; number = number_read (seen_by c h) r })) ≡ Some (record { command = i; number = f.number })) u target))
+    by_looked true u = absurd (none_sent_sought x.sent (record { command = i; number = f.number }) none_sent (subst (λ b. (if b then target_sent by_result x.sent else Some (record { command = x.begun + 1; number = number_read (seen_by c h) r })) ≡ Some (record { command = i; number = f.number })) u target))
     by_looked false u = by_registers (registers (asked p c (x.begun + 1)) r.node) refl u
 
 -- where no push waits, a path's record is as new as its last sweep
@@ -299,7 +293,7 @@ read_falls p c d i s e h l b q g r t = has_less p c e h (op.Read d i s) tt q (ap
     read = record { node = (sight_of p c h).node (path_read (asked p c i)); stamp = s; looked = false }
 
     begun : (client_of p c (e ∷ h)).begun ≡ x.begun
-    begun = begun_is p c e h (op.Read d i s) q (ap Some g)
+    begun = own_begun p c e h (op.Read d i s) q (ap Some g)
 
     its_path : path_read (asked p c ((client_of p c (e ∷ h)).begun + 1)) ≡ path_asked r.query
     its_path = ap (λ z. path_read (asked p c (z + 1))) begun ∙ (ap (λ z. path_read (asked p c z)) (sym r.begins.next) ∙ path_of_read (asked p c i) r.begins.ask r.query r.watch r.begins.is_asked r.reads)
@@ -365,7 +359,7 @@ pong_falls p c d n e h others q g o = has_less p c e h (op.Pong d n) tt q (ap So
         let k = inbox_kept p c d e h (ap client_in q) (ap (takes c) q) in
         let s = ap length k in
         let y = less in
-        let r = read_stays p c d e h x.reading (ap client_in q) (begun_is p c e h (op.Pong d n) q (ap Some g)) in
+        let r = read_stays p c d e h x.reading (ap client_in q) (own_begun p c e h (op.Pong d n) q (ap Some g)) in
         omega (arith, s, y, r)
 
 pinged_owed : (n : ℕ) (b : Bool) (owed : List ℕ) → length (if b then owed else owed ++ n ∷ []) ≤ length owed + 1

@@ -32,13 +32,13 @@ use Rattle.fk_law_reply.specs.Plans.{HasFittingVerbs}
 use Rattle.fk_law_reply.specs.Reads.{IsMadeRead}
 use Rattle.fk_law_reply.proofs.Finding.{reads_show_the_tree}
 use Rattle.fk_law_reply.proofs.Plans.{deployments_have_fitting_verbs}
-use Rattle.fk_law.proofs.Numbers.{itself}
 use Rattle.fk_law_drain.specs.Answering.{keeps_command}
 use Rattle.fk_law_drain.specs.Delivering.{awaits_outcome, is_outcome_told, IsReplied, IsUnderWay}
 use Rattle.fk_law_drain.specs.Drained.{DrainedIsAnswered, DrainedDeploymentIsAnswered, ScheduledIsAnswered}
 use Rattle.fk_law_drain.proofs.Answering.{begun_are_answered_or_kept}
 use Rattle.fk_law_drain.proofs.Awaiting.{open_are_given}
 use Rattle.fk_law_drain.proofs.Delivering.{removed_message_is_replied_or_committed}
+use Rattle.fk_base.proofs.Logic.{itself}
 
 -- What an idle client has. -----------------------------------------------------------------------------
 

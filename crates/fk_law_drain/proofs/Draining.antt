@@ -26,7 +26,6 @@ use Rattle.fk_spec.specs.Schedule.{is_idle, Plays, crashes, drain_begin}
 use Rattle.fk_spec.specs.Next.{IsHistory, crash_op, follow_op, lead_op, next_op, tell_op}
 use Rattle.fk_law.proofs.Locking.{lock_names_a_granted_path, locks_are_followers}
 use Rattle.fk_law.proofs.Moving.{place_step}
-use Rattle.fk_law.proofs.Numbers.{itself}
 use Rattle.fk_law.proofs.Starting.{place_bound, task_bound}
 use Rattle.fk_law_drain.specs.Draining.{Begins, Goes, IsCalm, IsHolder, IsUnhindered, WorksOnTheHead, DrainsAreCalm, DrainsAreUnhindered}
 use Rattle.fk_law_drain.proofs.Choosing.{Chooses, Delivers, Leads, Steps, Tells, Turns, drain_chooses, none_stands}
@@ -34,6 +33,7 @@ use Rattle.fk_law_drain.proofs.Delivering.{head_is}
 use Rattle.fk_law_drain.proofs.Stepping.{IsFree, NoGrant, NotAck, may_stay, not_removed, other_granted, step_calm}
 use Rattle.fk_law_drain.proofs.Turning.{client_turn, turn_is_own}
 use Rattle.fk_law_drain.proofs.Unhindered.{GoesOn, function_goes}
+use Rattle.fk_base.proofs.Logic.{itself}
 
 -- Starts. ----------------------------------------------------------------------------------------------
 

@@ -21,7 +21,7 @@ use Rattle.fk_spec.specs.Leader.{next_leader}
 use Rattle.fk_spec.specs.Leader as leader
 use Rattle.fk_spec.specs.Teller.{next_teller}
 use Rattle.fk_spec.specs.Teller as teller
-use Rattle.fk_spec.specs.Function.{Place, Absent, Following, Leading, Telling, Beating, actor, follow_on, is_absent, lead_on, moved, place_by, place_of, tell_on}
+use Rattle.fk_spec.specs.Function.{Place, Absent, Following, Leading, Telling, Beating, actor, follow_on, is_absent, lead_on, moved, place_of, tell_on}
 use Rattle.fk_spec.specs.Next.{IsHistory}
 use Rattle.fk_law.specs.Due.{Acks, Commits, IsDue, Replies}
 use Rattle.fk_law.specs.Losing.{IsOwn}
@@ -31,11 +31,10 @@ use Rattle.fk_law.proofs.Due.{due}
 use Rattle.fk_law.proofs.Growing.{numbers_never_fall}
 use Rattle.fk_law.proofs.Losing.{has_last, same_sym}
 use Rattle.fk_law.proofs.Moving.{IsAhead, ahead, last_after, place_step}
-use Rattle.fk_law.proofs.Numbers.{itself}
 use Rattle.fk_law.proofs.Pushing.{at_commit}
 use Rattle.fk_law.proofs.Sending.{sent_has_a_request}
 use Rattle.fk_law.proofs.Settled.{reached}
-use Rattle.fk_law.proofs.Starting.{follower_task, no_start}
+use Rattle.fk_law.proofs.Starting.{follower_task, no_start, own_operation_moves_it}
 use Rattle.fk_law_drain.specs.Draining.{HoldsLocks, IsCalm, IsHolder, IsUnhindered, SettlesNext, WorksOnTheHead}
 use Rattle.fk_law_drain.proofs.Unhindered.{GoesOn}
 
@@ -45,11 +44,8 @@ use Rattle.fk_law_drain.proofs.Unhindered.{GoesOn}
 pub its_request : (p : Plan) (n : ℕ) (h : List Entry) (f : Follower) → IsHistory p h → place_of p n h ≡ Following f → (r : Request) × (request_of p f.session f.k h ≡ Some r)
 its_request p n h f l b = let r = reached p n f.session f.k h l (follower_task p n h f l b) in sent_has_a_request p f.session f.k h l r.0 r.2
 
-pub place_after : (p : Plan) (n : ℕ) (e : Entry) (h : List Entry) → actor e.op ≡ Some n → place_of p n (e ∷ h) ≡ moved p h e.op (place_of p n h)
-place_after p n e h a = subst (λ z. place_by p n h e.op z (place_of p n h) ≡ moved p h e.op (place_of p n h)) (sym a) (ap (λ b. if b then moved p h e.op (place_of p n h) else place_of p n h) (itself n))
-
 pub follower_after : (p : Plan) (n : ℕ) (e : Entry) (h : List Entry) (f : Follower) (r : Request) → actor e.op ≡ Some n → place_of p n h ≡ Following f → request_of p f.session f.k h ≡ Some r → place_of p n (e ∷ h) ≡ follow_on (next_with p h r e.op f).stage (next_with p h r e.op f)
-follower_after p n e h f r a b q = place_after p n e h a ∙ (ap (moved p h e.op) b ∙ ap (λ z. let g = next_for p h z e.op f in follow_on g.stage g) q)
+follower_after p n e h f r a b q = own_operation_moves_it p n e h a ∙ (ap (moved p h e.op) b ∙ ap (λ z. let g = next_for p h z e.op f in follow_on g.stage g) q)
 
 follow_keeps : (P : Place → Type 0) (s : follower.Stage) (g : Follower) → P Absent → (progress s ≢ Ends → P (Following g)) → P (follow_on s g)
 follow_keeps P follower.Ended g a b = a
@@ -133,14 +129,14 @@ tell_keeps h w t teller.Ended e = tt
 tell_keeps h w t s e = e
 
 leader_works : (p : Plan) (n t : ℕ) (e : Entry) (h : List Entry) (s : leader.Stage) → place_of p n h ≡ Leading t s → actor e.op ≡ Some n → t ≡ removed_by leads h + 1 → (o : Op) → e.op ≡ o → WorksOnTheHead (e ∷ h) (place_of p n (e ∷ h))
-leader_works p n t e h s b a w o q = subst (WorksOnTheHead (e ∷ h)) (sym (place_after p n e h a ∙ ap (moved p h e.op) b)) (by_op o q)
+leader_works p n t e h s b a w o q = subst (WorksOnTheHead (e ∷ h)) (sym (own_operation_moves_it p n e h a ∙ ap (moved p h e.op) b)) (by_op o q)
   where
     by_op : (o : Op) → e.op ≡ o → WorksOnTheHead (e ∷ h) (moved p h e.op (Leading t s))
     by_op (op.AckOk m) q = subst (λ z. WorksOnTheHead (e ∷ h) (moved p h z (Leading t s))) (sym q) tt
     by_op o q = lead_keeps (e ∷ h) t (next_leader p h t e.op s) (w ∙ ap (λ z. removed_in leads h z (removed_by leads h) + 1) (sym q))
 
 teller_works : (p : Plan) (n m t : ℕ) (e : Entry) (h : List Entry) (s : teller.Stage) → place_of p n h ≡ Telling m t s → actor e.op ≡ Some n → m ≡ removed_by notifies h + 1 → (o : Op) → e.op ≡ o → WorksOnTheHead (e ∷ h) (place_of p n (e ∷ h))
-teller_works p n m t e h s b a w o q = subst (WorksOnTheHead (e ∷ h)) (sym (place_after p n e h a ∙ ap (moved p h e.op) b)) (by_op o q)
+teller_works p n m t e h s b a w o q = subst (WorksOnTheHead (e ∷ h)) (sym (own_operation_moves_it p n e h a ∙ ap (moved p h e.op) b)) (by_op o q)
   where
     by_op : (o : Op) → e.op ≡ o → WorksOnTheHead (e ∷ h) (moved p h e.op (Telling m t s))
     by_op (op.AckOk x) q = subst (λ z. WorksOnTheHead (e ∷ h) (moved p h z (Telling m t s))) (sym q) tt

@@ -31,12 +31,12 @@ use Rattle.fk_law.proofs.Due.{due}
 use Rattle.fk_law.proofs.Leading.{leader_at_or_below_the_head}
 use Rattle.fk_law.proofs.Sending.{request_stays}
 use Rattle.fk_law.proofs.Settled.{reached}
-use Rattle.fk_law.proofs.Starting.{follower_task, leader_task, place_for, teller_at_or_below_the_head, no_client}
+use Rattle.fk_law.proofs.Starting.{follower_task, leader_task, no_client, own_operation_moves_it, place_for, teller_at_or_below_the_head}
 use Rattle.fk_law_drain.specs.Draining.{WorksOnTheHead}
 use Rattle.fk_law_drain.specs.Falling.{IsLower, client_sum, client_weight, commands_left, follower_class, follower_rank, leader_class, leader_rank, lock_bound, puts_left, requests_left, teller_class, teller_rank, tells_left}
 use Rattle.fk_law_drain.proofs.ClientsFall.{NoSend}
 use Rattle.fk_law_drain.proofs.FunctionsFall.{FollowerFalls, LeaderFalls, TellerFalls, follower_falls, leader_falls, teller_falls}
-use Rattle.fk_law_drain.proofs.Stepping.{NotAck, follower_after, its_request, not_removed, place_after}
+use Rattle.fk_law_drain.proofs.Stepping.{NotAck, follower_after, its_request, not_removed}
 use Rattle.fk_law_drain.proofs.Summing.{lower_after, lower_then, sum_falls, sum_same}
 use Rattle.fk_law_drain.proofs.Unhindered.{GoesOn}
 
@@ -243,7 +243,7 @@ leader_step_falls p n t e h s l b g w o q = by_op o q
     task = leader_task p n h t s l.0 b
 
     after : place_of p n (e ∷ h) ≡ lead_on t (next_leader p h t e.op s)
-    after = place_after p n e h g.1 ∙ ap (moved p h e.op) b
+    after = own_operation_moves_it p n e h g.1 ∙ ap (moved p h e.op) b
 
     commands : client_sum (commands_left p (e ∷ h)) p.asks 1 ≡ client_sum (commands_left p h) p.asks 1
     commands = same_commands p e h (no_client e.op n g.1)
@@ -296,7 +296,7 @@ teller_step_falls p n v t e h s l b g w o q = by_op o q
     task = subst (IsFor (task_of n h)) b (place_for p n h l.0)
 
     after : place_of p n (e ∷ h) ≡ tell_on v t (next_teller e.op s)
-    after = place_after p n e h g.1 ∙ ap (moved p h e.op) b
+    after = own_operation_moves_it p n e h g.1 ∙ ap (moved p h e.op) b
 
     commands : client_sum (commands_left p (e ∷ h)) p.asks 1 ≡ client_sum (commands_left p h) p.asks 1
     commands = same_commands p e h (no_client e.op n g.1)

@@ -13,14 +13,14 @@ use Rattle.fk_print.specs.declared.op.Op.{Op}
 use Rattle.fk_print.specs.declared.op.Op.TheVariants as op
 use Rattle.fk_spec.specs.Plan.{Plan}
 use Rattle.fk_spec.specs.Start.{Task, Follows, Leads, Notifies, Probes, Push, push_of, pushes_of, request_of, seen_with, sends_of, task_of}
-use Rattle.fk_spec.specs.Locks.{Grant, first_passed, granted, has_released, last_grant, may_grant}
+use Rattle.fk_spec.specs.Locks.{Grant, first_passed, granted, last_grant, may_grant}
 use Rattle.fk_spec.specs.Locks as locks
 use Rattle.fk_spec.specs.Settling.{Outcome, Committed, Passed, Refused, done_of, is_committed, is_pending, mark_of, outcome_of, settled_of, swept_of}
 use Rattle.fk_spec.specs.Stored.{stamp_of, stored_view}
 use Rattle.fk_spec.specs.Lanes.{follows_session, head_among, leader_head, leads, notes_of, notifies, removed_by, session_head, watch_head}
-use Rattle.fk_spec.specs.Follower.{Follower, next_follower, ack_op, busy_op, commit_locked, commit_op, expire_op, follower_op, is_number, lock_op, paths_of, refuse_locked, refuse_op, session_op, settled_op, unsettled_op}
+use Rattle.fk_spec.specs.Follower.{Follower, next_follower, ack_op, busy_op, commit_locked, commit_op, expire_op, follower_op, lock_op, refuse_locked, refuse_op, session_op, settled_op, unsettled_op}
 use Rattle.fk_spec.specs.Follower as follower
-use Rattle.fk_spec.specs.Leader.{next_leader, for_push, for_task, leader_op, of_push, sweep_op}
+use Rattle.fk_spec.specs.Leader.{next_leader, for_push, for_task, leader_op, of_push}
 use Rattle.fk_spec.specs.Leader as leader
 use Rattle.fk_spec.specs.Teller.{Note, next_teller, note_of, teller_op, to_tell}
 use Rattle.fk_spec.specs.Teller as teller
@@ -39,7 +39,6 @@ use Rattle.fk_law.proofs.Leading.{leader_at_or_below_the_head}
 use Rattle.fk_law.proofs.Living.{live_commits, own_held}
 use Rattle.fk_law.proofs.Locking.{lock_names_a_granted_path, unsettled_unreleased}
 use Rattle.fk_law.proofs.Moving.{place_step}
-use Rattle.fk_law.proofs.Numbers.{itself}
 use Rattle.fk_law.proofs.Pushing.{push_request, push_there}
 use Rattle.fk_law.proofs.Recording.{records_are_of_its_grants}
 use Rattle.fk_law.proofs.Seeing.{lock_is_new}
@@ -48,6 +47,7 @@ use Rattle.fk_law.proofs.Sending.{sent_has_a_request}
 use Rattle.fk_law.proofs.Settled.{commit_of, reached}
 use Rattle.fk_law.proofs.Starting.{follower_task, leader_task, place_for, teller_at_or_below_the_head}
 use Rattle.fk_law_drain.specs.Draining.{IsCalm, IsHolder, IsUnhindered, SettlesNext, WorksOnTheHead}
+use Rattle.fk_base.proofs.Logic.{itself}
 
 -- Functions end only at their ends. --------------------------------------------------------------------
 

@@ -22,7 +22,6 @@ use Rattle.fk_law.specs.Due.{IsDue}
 use Rattle.fk_law.specs.LeaderLane.{sweeps}
 use Rattle.fk_law.proofs.Due.{due}
 use Rattle.fk_law.proofs.Leading.{mark_behind_sweep}
-use Rattle.fk_law.proofs.Numbers.{itself}
 use Rattle.fk_law_watch.specs.FirstNumbers.{ReadsAreReads}
 use Rattle.fk_law_watch.specs.Noting.{is_told}
 use Rattle.fk_law_watch.specs.Registering.{IsRegistration}
@@ -43,6 +42,7 @@ use Rattle.fk_law_held.specs.Held.{HeldChange, Left, Emptied, Dropped, Added, fi
 use Rattle.fk_law_held.proofs.Changing.{held_change, with_has, without_has}
 use Rattle.fk_law_held.proofs.Holding.{held_watches_are_accounted_for, registration}
 use Rattle.fk_law_held.proofs.Telling.{told_watch_is_of_its_client}
+use Rattle.fk_base.proofs.Logic.{itself}
 
 -- A number that is given or kept at a registration hasn't fired. ---------------------------------------
 

@@ -11,10 +11,10 @@ use Rattle.fk_spec.specs.Plan.{Plan, asked, asks_in}
 use Rattle.fk_spec.specs.Settling.{Outcome}
 use Rattle.fk_spec.specs.Sight.{sight_of}
 use Rattle.fk_spec.specs.Client.{acted_by, by_result, client_in, client_of, close_if, contains, is_close, kept_outcome, looked, looked_at, looked_for, registers, settle_with, settled_as, with_held, without, Reading, Sent}
-use Rattle.fk_law.proofs.Numbers.{itself}
 use Rattle.fk_law_tree.proofs.Members.{or_left}
 use Rattle.fk_law_watch.proofs.SetWatches.{by_or}
 use Rattle.fk_law_held.specs.Held.{HeldChange, Left, Emptied, Dropped, Added}
+use Rattle.fk_base.proofs.Logic.{itself}
 
 -- Lists of numbers. ------------------------------------------------------------------------------------
 

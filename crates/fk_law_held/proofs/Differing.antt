@@ -43,6 +43,7 @@ use Rattle.fk_law_held.specs.Held.{HeldChange, Left, Emptied, Dropped, Added, Is
 use Rattle.fk_law_held.proofs.Announcing.{held_back, known_fired, set_unfired, waiting_read_is_clean}
 use Rattle.fk_law_held.proofs.Changing.{held_change, with_new, with_old, without_other}
 use Rattle.fk_law_held.proofs.Holding.{IsRegistered, held_watches_are_accounted_for, known_stays, registered_now, registration, set_keeps}
+use Rattle.fk_tree.proofs.SameKind.{same_kind_sym}
 
 -- A waiting read. --------------------------------------------------------------------------------------
 
@@ -64,9 +65,6 @@ taken_touches path k (t ∷ ts) x e = by_path (same_path t.path path) e (taken_t
     by_path : (b : Bool) → (if b && takes k t.change then Some t.change else first_taken path k ts) ≡ Some x → (first_taken path k ts ≡ Some x → has_touch path ts ≡ true) → (if b then true else has_touch path ts) ≡ true
     by_path true f i = refl
     by_path false f i = i f
-
-kind_flipped : (a b : Kind) → same_kind a b ≡ true → same_kind b a ≡ true
-kind_flipped a b e = grind arith
 
 path_through : (a b c : PathNames) → same_path a b ≡ true → same_path a c ≡ true → same_path b c ≡ true
 path_through a b c e f = subst (λ z. same_path z c ≡ true) (same_path_is a b e) f
@@ -149,7 +147,7 @@ held_watches_differ p c i j (e ∷ h) u w v l f g k m s t = either (λ x y. old 
     either : (contains i (client_of p c h).held ≡ true → contains j (client_of p c h).held ≡ true → i ≡ j) → (contains i (client_of p c h).held ≡ true) ⊎ ((a : ℕ) × (e.op ≡ op.WatchSet c a i)) → (contains j (client_of p c h).held ≡ true) ⊎ ((a : ℕ) × (e.op ≡ op.WatchSet c a j)) → i ≡ j
     either n (inl x) (inl y) = n x y
     either n (inr x) (inl y) = differ_new p c x.0 i j e h u w v l x.1 y k m s t
-    either n (inl x) (inr y) = sym (differ_new p c y.0 j i e h w u v l y.1 x m k (same_flip w.path u.path ∙ s) (kind_flipped u.kind w.kind t))
+    either n (inl x) (inr y) = sym (differ_new p c y.0 j i e h w u v l y.1 x m k (same_flip w.path u.path ∙ s) (same_kind_sym u.kind w.kind t))
     either n (inr x) (inr y) = same_set c x.0 y.0 i j (sym x.1 ∙ y.1)
 
 -- Set watches. -----------------------------------------------------------------------------------------

@@ -43,6 +43,7 @@ use Rattle.fk_law_held.proofs.Following.{held_by_lines_is_held}
 use Rattle.fk_law_watch.proofs.FirstNumbers.{fires_beyond_its_first}
 use Rattle.fk_law_watch.proofs.Sweeps.{swept_committed}
 use Rattle.fk_law_reply.specs.Plans.{HasFittingVerbs}
+use Rattle.fk_law_watch.proofs.Noting.{stands_swept}
 
 -- What a line touches. ---------------------------------------------------------------------------------
 
@@ -135,9 +136,6 @@ fired_by_lines_has_fired p c h w g v l i q =
 abbrev held_as : Firing → ℕ → Holding
 held_as f n = record { path = f.watch.path; kind = f.watch.kind; at = n }
 
-committed_swept : (p : Plan) (t : ℕ) (h : List Entry) → IsHistory p h → is_committed t h ≡ true → t ≤ mark_of h → is_swept t h ≡ true
-committed_swept p t h l c b = swept_up_to_the_sweep p t h l c (let m = (mark_behind_sweep p h l).0 in omega (arith, b, m))
-
 no_line : (p : Plan) (id n m : ℕ) (h : List Entry) (f : Firing) (a : Applied) → IsHistory p h → firing_of p id h ≡ Some f → first_of p id h ≡ Some n → f.tx ≤ mark_of h → committed_as p (suc m) h ≡ Some a → suc m < f.tx → fired_in (held_as f n) (printed_of a) ≡ None
 no_line p id n m h f a l e g b q k = line_fires p m h a (held_as f n) l q ∙ by_number (nat_lt n (suc m)) refl
   where
@@ -147,7 +145,7 @@ no_line p id n m h f a l e g b q k = line_fires p m h a (held_as f n) l q ∙ by
         let s = fired_watch_fired_at_its_first_change p id h f l e in
         let i = same_Some s.first n (sym s.registered ∙ g) in
         let d : n < suc m = grind (arith, nat_tests) in
-        ap (fired_with (suc m)) (s.none_before (suc m) (committed_swept p (suc m) h l (was_committed p (suc m) h a q) (omega (arith, b, k))) (omega (arith, i, d)) k)
+        ap (fired_with (suc m)) (s.none_before (suc m) (stands_swept p (suc m) h l (was_committed p (suc m) h a q) (omega (arith, b, k))) (omega (arith, i, d)) k)
 
 none_step : (p : Plan) (id n m : ℕ) (h : List Entry) (f : Firing) (x : Option Applied) → IsHistory p h → firing_of p id h ≡ Some f → first_of p id h ≡ Some n → f.tx ≤ mark_of h → committed_as p (suc m) h ≡ x → suc m < f.tx → firing_among (held_as f n) (all_printed (numbered m (committed_of p h))) ≡ None → firing_among (held_as f n) (all_printed (with_some x (numbered m (committed_of p h)))) ≡ None
 none_step p id n m h f None l e g b q k i = i

@@ -20,7 +20,6 @@ use Rattle.fk_spec.specs.Replies.{failed_line, notice_of, own_lines, reply_lines
 use Rattle.fk_spec.specs.Holding.{Holding, held_by, not_held}
 use Rattle.fk_spec.specs.PublicLines.{lines_of}
 use Rattle.fk_spec.specs.Next.{IsHistory}
-use Rattle.fk_law.proofs.Numbers.{itself}
 use Rattle.fk_law.proofs.Printing.{lines_are}
 use Rattle.fk_law_watch.proofs.Reading.{next_is}
 use Rattle.fk_law_client.specs.Lines.{IsAmong, kept_after}
@@ -36,6 +35,7 @@ use Rattle.fk_law_held.proofs.Differing.{held_watches_differ, told_fired}
 use Rattle.fk_law_held.proofs.Holding.{closed_clients_hold_nothing, held_watches_are_accounted_for, known_stays}
 use Rattle.fk_law_held.proofs.Lines.{acted_closed, all_leave, expired_closed, look_matches, onto_append, onto_is, other_lines, plain_leaves, set_matches, tx_lines_leave}
 use Rattle.fk_law_held.proofs.Matching.{held_onto, matches_dropped, matches_later, matches_none, matches_without, none_held}
+use Rattle.fk_base.proofs.Logic.{itself}
 
 -- One operation. ---------------------------------------------------------------------------------------
 

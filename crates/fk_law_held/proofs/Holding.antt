@@ -20,7 +20,6 @@ use Rattle.fk_spec.specs.Watches.{Firing, Watch, firing_in, firing_of, firing_wi
 use Rattle.fk_spec.specs.Client.{acted_by, by_result, client_of, close_if, contains, is_close, kept_outcome, looked, looked_at, looked_for, registers, settle_with, settled_as, without, Client, Reading, Sent}
 use Rattle.fk_spec.specs.Next.{IsHistory}
 use Rattle.fk_spec.specs.WatchNumbers.{watch_with}
-use Rattle.fk_law.proofs.Numbers.{itself}
 use Rattle.fk_law_watch.specs.Registering.{IsRegistration, Registers, number_of_read}
 use Rattle.fk_law_watch.specs.SetWatches.{IsOneOfTwo, first_of, registered_in, set_watch}
 use Rattle.fk_law_watch.proofs.Listing.{AreUnique, append_with, fired_one, fires_watch, has_is, set_number_has, stays_set}
@@ -31,6 +30,8 @@ use Rattle.fk_law_client.proofs.Kept.{client_after}
 use Rattle.fk_law_client.proofs.Operating.{client_operations_say}
 use Rattle.fk_law_held.specs.Held.{HeldChange, Left, Emptied, Dropped, Added, IsAccountedFor, HeldWatchesAreAccountedFor, ClosedClientsHoldNothing, fired_watch, known_watch}
 use Rattle.fk_law_held.proofs.Changing.{held_change, with_has, without_has}
+use Rattle.fk_base.proofs.Logic.{itself}
+use Rattle.fk_tree.proofs.SameKind.{same_kind_self}
 
 -- A watch stays what it is. ----------------------------------------------------------------------------
 
@@ -120,9 +121,6 @@ pub record IsRegistered (p : Plan) (c id : ℕ) (path : PathNames) (k : Kind) (h
   pub set_now : set_watch p id h ≡ Some watch
   pub of_it : IsOf c path k watch
 
-pub kind_itself : (k : Kind) → same_kind k k ≡ true
-kind_itself k = grind arith
-
 has_none : (id : ℕ) (ws : List Watch) → has_id id ws ≡ false → watch_with id ws ≡ None
 has_none id ws e = by_with (watch_with id ws) refl (sym (has_is id ws) ∙ e)
   where
@@ -140,7 +138,7 @@ registered_now p c i id e h l q r = subst (λ o. (w : Watch) × (watch_with id (
   where
     by_has : (b : Bool) → has_id r.watch.id (set_watches p h) ≡ b → (w : Watch) × (watch_with id (if b then set_watches p h else set_watches p h ++ r.watch ∷ []) ≡ Some w) × IsOf c r.watch.path r.watch.kind w
     by_has true f = set_already p c id r.watch.path r.watch.kind h (set_number c r.watch.path r.watch.kind (set_watches p h)) l.0 refl r.numbered (subst (λ z. has_id z (set_watches p h) ≡ true) r.its_id f)
-    by_has false f = (r.watch, append_with id (set_watches p h) r.watch ∙ (ap (λ o. or_else o (if r.watch.id == id then Some r.watch else None)) (has_none id (set_watches p h) (subst (λ z. has_id z (set_watches p h) ≡ false) r.its_id f)) ∙ rw (r.its_id, itself id) refl), (r.its_session, same_path_self r.watch.path, kind_itself r.watch.kind))
+    by_has false f = (r.watch, append_with id (set_watches p h) r.watch ∙ (ap (λ o. or_else o (if r.watch.id == id then Some r.watch else None)) (has_none id (set_watches p h) (subst (λ z. has_id z (set_watches p h) ≡ false) r.its_id f)) ∙ rw (r.its_id, itself id) refl), (r.its_session, same_path_self r.watch.path, same_kind_self r.watch.kind))
 
 pub registration : (p : Plan) (c i id : ℕ) (e : Entry) (h : List Entry) → IsHistory p (e ∷ h) → e.op ≡ op.WatchSet c i id → IsRegistration p h c i id
 registration p c i id e h l q = subst (Registers p h) q (watches_are_registered p e h l)

@@ -38,7 +38,6 @@ use Rattle.fk_spec.specs.Replies.{first_line, looked_lines, read_lines, reply_li
 use Rattle.fk_spec.specs.Holding.{Holding, ends_session, held_after, held_asked, held_by, held_with, number_set, set_by, with_holding}
 use Rattle.fk_spec.specs.PublicLines.{lines_onto}
 use Rattle.fk_spec.specs.Next.{IsHistory}
-use Rattle.fk_law.proofs.Numbers.{itself}
 use Rattle.fk_law_watch.specs.Registering.{IsRegistration, number_from, number_of_read}
 use Rattle.fk_law_watch.specs.SetWatches.{first_of, registered_in, set_watch}
 use Rattle.fk_law_watch.proofs.SetWatches.{or_stays}
@@ -54,7 +53,7 @@ use Rattle.fk_law_held.proofs.Announcing.{registered_unfired}
 use Rattle.fk_law_held.proofs.Changing.{held_change, with_has, with_new, with_old}
 use Rattle.fk_law_held.proofs.Differing.{held_watches_differ, set_watches_are_held, unfired_set, waiting_read_registers}
 use Rattle.fk_law_held.proofs.Holding.{IsRegistered, accounted_now, closed_clients_hold_nothing, held_watches_are_accounted_for, known_stays, registered_now, registration}
-use Rattle.fk_law_held.proofs.Matching.{held_onto, kind_is, matches_added, matches_again, matches_none}
+use Rattle.fk_law_held.proofs.Matching.{held_onto, matches_added, matches_again, matches_none}
 use Rattle.fk_law_client.specs.Tracking.{IsTrueResult}
 use Rattle.fk_law_client.proofs.Tracking.{sent_tracked}
 use Rattle.fk_law_reply.specs.Ledger.{IsEntered, IsMessage}
@@ -64,6 +63,8 @@ use Rattle.fk_law_reply.proofs.RefusedOutcomes.{refused_holds_at_its_number}
 use Rattle.fk_law.proofs.Sending.{committed_is_filled}
 use Rattle.fk_law.proofs.Settled.{reached}
 use Rattle.fk_law.proofs.Outcomes.{outcome_is_of_a_settled}
+use Rattle.fk_base.proofs.Logic.{itself}
+use Rattle.fk_tree.proofs.SameKind.{same_kind_is}
 
 -- Lines one after another. -----------------------------------------------------------------------------
 
@@ -388,7 +389,7 @@ set_matches p c i id e h ws v l q m = subst (λ z. Matches p (e ∷ h) (with_hel
     path = same_path_is x.watch.path r.watch.path x.of_it.1 ∙ ap (λ w. w.path) wanted
 
     kind : x.watch.kind ≡ kind_asked a.0.query
-    kind = kind_is x.watch.kind r.watch.kind x.of_it.2 ∙ ap (λ w. w.kind) wanted
+    kind = same_kind_is x.watch.kind r.watch.kind x.of_it.2 ∙ ap (λ w. w.kind) wanted
 
     known : known_watch p id (e ∷ h) ≡ Some x.watch
     known = or_stays (set_watch p id (e ∷ h)) (fired_watch (firing_of p id (e ∷ h))) x.watch x.set_now

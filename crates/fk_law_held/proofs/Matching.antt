@@ -1,6 +1,6 @@
 -- The watches that a client holds by its lines are those that it holds.
 use Rattle.std.specs.Prelude.{◌&&◌}
-use Rattle.std.proofs.Common.{◌≡◌, ℕ, ◌⊎◌, inl, inr, if◌then◌else◌, Bool, true, false, List, [], ◌∷◌, refl, sym, ◌∙◌, ap, subst, arith, Option, Some, None}
+use Rattle.std.proofs.Common.{◌≡◌, ℕ, ◌⊎◌, inl, inr, if◌then◌else◌, Bool, true, false, List, [], ◌∷◌, refl, sym, ◌∙◌, ap, subst, Option, Some, None}
 use Rattle.std.proofs.lemmas.Bool.{false≢true, and_parts}
 use Rattle.std.proofs.lemmas.Option.{same_Some, none-some}
 use Rattle.fk_base.specs.Path.{PathNames, same_path}
@@ -19,12 +19,10 @@ use Rattle.fk_law_watch.proofs.SetWatches.{or_stays}
 use Rattle.fk_law_held.specs.Held.{IsAccountedFor, known_watch}
 use Rattle.fk_law_held.specs.Matching.{IsIn, IsOfHeld, Matches}
 use Rattle.fk_law_held.proofs.Changing.{without_has, without_other}
-use Rattle.fk_law_held.proofs.Holding.{known_stays, kind_itself}
+use Rattle.fk_law_held.proofs.Holding.{known_stays}
+use Rattle.fk_tree.proofs.SameKind.{same_kind_is, same_kind_self}
 
 -- Holdings. --------------------------------------------------------------------------------------------
-
-pub kind_is : (a b : Kind) → same_kind a b ≡ true → a ≡ b
-kind_is a b e = grind arith
 
 -- what is found is one of them, of that path and kind
 pub found_in : (path : PathNames) (k : Kind) (ws : List Holding) (x : Holding) → held_at path k ws ≡ Some x → IsIn x ws × (x.path ≡ path) × (x.kind ≡ k)
@@ -32,7 +30,7 @@ found_in path k [] x e = absurd (none-some x e)
 found_in path k (w ∷ ws) x e = by_same (same_watch path k w) refl e (found_in path k ws x)
   where
     its : same_watch path k w ≡ true → (w.path ≡ path) × (w.kind ≡ k)
-    its f = let y = and_parts (same_path w.path path) (same_kind w.kind k) f in (same_path_is w.path path y.0, kind_is w.kind k y.1)
+    its f = let y = and_parts (same_path w.path path) (same_kind w.kind k) f in (same_path_is w.path path y.0, same_kind_is w.kind k y.1)
 
     by_same : (b : Bool) → same_watch path k w ≡ b → (if b then Some w else held_at path k ws) ≡ Some x → (held_at path k ws ≡ Some x → IsIn x ws × (x.path ≡ path) × (x.kind ≡ k)) → IsIn x (w ∷ ws) × (x.path ≡ path) × (x.kind ≡ k)
     by_same true f g i = let s = same_Some w x g in let y = its f in (inl (sym s), ap (λ z. z.path) (sym s) ∙ y.0, ap (λ z. z.kind) (sym s) ∙ y.1)
@@ -50,7 +48,7 @@ held_at_not path q k j (w ∷ ws) d = by_same (same_watch q j w) refl (same_watc
     clash f g =
         let a = and_parts (same_path w.path q) (same_kind w.kind j) f in
         let b = and_parts (same_path w.path path) (same_kind w.kind k) g in
-        d (subst (λ z. same_path z path ≡ true) (same_path_is w.path q a.0) b.0) (subst (λ z. same_kind z k ≡ true) (kind_is w.kind j a.1) b.1)
+        d (subst (λ z. same_path z path ≡ true) (same_path_is w.path q a.0) b.0) (subst (λ z. same_kind z k ≡ true) (same_kind_is w.kind j a.1) b.1)
 
     by_same : (b : Bool) → same_watch q j w ≡ b → (a : Bool) → same_watch path k w ≡ a → held_at path k (not_held q j ws) ≡ held_at path k ws → held_at path k (if b then not_held q j ws else w ∷ not_held q j ws) ≡ (if a then Some w else held_at path k ws)
     by_same true f true g i = absurd (clash f g)
@@ -100,7 +98,7 @@ matches_dropped p h held ws j v k differ m = record {
     apart : (x : Holding) → same_watch v.path v.kind x ≡ false → (z : IsOfHeld p h held x) → z.id ≡ j → ⊥
     apart x f z e =
         let s = same_Some z.watch v (sym z.known ∙ (ap (λ n. known_watch p n h) e ∙ k)) in
-        false≢true (sym f ∙ rw (sym z.its_path ∙ ap (λ w. w.path) s, sym z.its_kind ∙ ap (λ w. w.kind) s, same_path_self v.path, kind_itself v.kind) refl)
+        false≢true (sym f ∙ rw (sym z.its_path ∙ ap (λ w. w.path) s, sym z.its_kind ∙ ap (λ w. w.kind) s, same_path_self v.path, same_kind_self v.kind) refl)
 
 -- a number that isn't held is dropped
 pub matches_without : (p : Plan) (h : List Entry) (held : List ℕ) (ws : List Holding) (j : ℕ) → contains j held ≡ false → Matches p h held ws → Matches p h (without j held) ws
@@ -121,7 +119,7 @@ pub matches_added : (p : Plan) (h : List Entry) (held more : List ℕ) (ws : Lis
 matches_added p h held more ws id n v path k back old new fresh a q s t differ m = subst (λ o. Matches p h more (held_unless o (record { path = path; kind = k; at = n }) ws)) (sym none) (record { there = there; back = behind })
   where
     clash : (i : ℕ) (w : Watch) → contains i held ≡ true → known_watch p i h ≡ Some w → w.path ≡ path → w.kind ≡ k → ⊥
-    clash i w f g x y = false≢true (sym fresh ∙ subst (λ z. contains z held ≡ true) (differ i w f g (rw (s, x, same_path_self path) refl) (rw (t, y, kind_itself k) refl)) f)
+    clash i w f g x y = false≢true (sym fresh ∙ subst (λ z. contains z held ≡ true) (differ i w f g (rw (s, x, same_path_self path) refl) (rw (t, y, same_kind_self k) refl)) f)
 
     none : held_at path k ws ≡ None
     none = by_found (held_at path k ws) refl
@@ -137,14 +135,14 @@ matches_added p h held more ws id n v path k back old new fresh a q s t differ m
         apart x = by_same (same_path path w.path && same_kind k w.kind) refl
           where
             by_same : (c : Bool) → (same_path path w.path && same_kind k w.kind) ≡ c → c ≡ false
-            by_same true y = let z = and_parts (same_path path w.path) (same_kind k w.kind) y in absurd (clash i w x g (sym (same_path_is path w.path z.0)) (sym (kind_is k w.kind z.1)))
+            by_same true y = let z = and_parts (same_path path w.path) (same_kind k w.kind) y in absurd (clash i w x g (sym (same_path_is path w.path z.0)) (sym (same_kind_is k w.kind z.1)))
             by_same false y = refl
 
         own : i ≡ id → held_at w.path w.kind (record { path = path; kind = k; at = n } ∷ ws) ≡ Some (record { path = w.path; kind = w.kind; at = b })
         own x =
             let y = same_Some w v (sym g ∙ (ap (λ z. known_watch p z h) x ∙ a)) in
             let z = same_Some b n (sym e ∙ (ap (λ c. first_of p c h) x ∙ q)) in
-            rw (ap (λ c. c.path) y ∙ s, ap (λ c. c.kind) y ∙ t, same_path_self path, kind_itself k, z) refl
+            rw (ap (λ c. c.path) y ∙ s, ap (λ c. c.kind) y ∙ t, same_path_self path, same_kind_self k, z) refl
 
         either : (contains i held ≡ true) ⊎ (i ≡ id) → held_at w.path w.kind (record { path = path; kind = k; at = n } ∷ ws) ≡ Some (record { path = w.path; kind = w.kind; at = b })
         either (inl x) = rw (apart x) (m.there i b w x g e)

@@ -17,7 +17,6 @@ use Rattle.fk_spec.specs.Client.{acted_by, client_in, client_of, contains}
 use Rattle.fk_spec.specs.Next.{IsHistory}
 use Rattle.fk_law.specs.Due.{IsDue}
 use Rattle.fk_law.proofs.Due.{due}
-use Rattle.fk_law.proofs.Numbers.{itself}
 use Rattle.fk_law_watch.specs.Telling.{announces, is_announced}
 use Rattle.fk_law_watch.proofs.SetWatches.{by_or, firing_never_changes}
 use Rattle.fk_law_watch.proofs.Telling.{announced_has_fired, announced_in_number_order}
@@ -30,6 +29,7 @@ use Rattle.fk_law_client.proofs.Kept.{own_client}
 use Rattle.fk_law_held.proofs.Changing.{without_has}
 use Rattle.fk_spec.specs.Start.{Task, Follows, Leads, Notifies, Probes, task_of, request_of}
 use Rattle.fk_law_tree.proofs.Members.{or_left}
+use Rattle.fk_base.proofs.Logic.{itself}
 
 -- More entries. ----------------------------------------------------------------------------------------
 

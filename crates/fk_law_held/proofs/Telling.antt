@@ -20,12 +20,12 @@ use Rattle.fk_spec.specs.Function.{Place, Absent, Following, Leading, Telling, B
 use Rattle.fk_spec.specs.Next.{IsHistory}
 use Rattle.fk_law.specs.Due.{Tells}
 use Rattle.fk_law.proofs.Moving.{moved_follower, moved_leader, place_step}
-use Rattle.fk_law.proofs.Numbers.{itself}
 use Rattle.fk_law_watch.specs.Noting.{fired_at, fired_at_in}
 use Rattle.fk_law_watch.proofs.Handing.{note_tells_what_its_push_fired}
 use Rattle.fk_law_watch.proofs.Listing.{AreUnique, fires_none}
 use Rattle.fk_law_watch.proofs.SetWatches.{firing_never_changes, or_stays, watches_unique}
 use Rattle.fk_law_held.specs.Announced.{ToldWatchIsOfItsClient}
+use Rattle.fk_base.proofs.Logic.{itself}
 
 -- Firings by their numbers. ----------------------------------------------------------------------------
 

@@ -47,7 +47,7 @@ use Rattle.fk_law_reply.specs.Replying.{IsWriteSent, ShowsOutcome, IsRefusedUpTo
 use Rattle.fk_law_reply.proofs.ClosedClients.{applied_is, evicted_request}
 use Rattle.fk_law_reply.proofs.Explaining.{lines_are_explained}
 use Rattle.fk_law_reply.proofs.RefusedOutcomes.{refused_beyond_seen, refused_holds_at_its_number}
-use Rattle.fk_law.proofs.Numbers.{itself}
+use Rattle.fk_base.proofs.Logic.{itself}
 
 -- What is no refusal. ----------------------------------------------------------------------------------
 

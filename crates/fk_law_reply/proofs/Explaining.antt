@@ -50,7 +50,7 @@ use Rattle.fk_law.specs.Due.{IsDue}
 use Rattle.fk_law.proofs.Due.{due}
 use Rattle.fk_spec.specs.Lanes.{Evicted, inbox_of}
 use Rattle.fk_law_reply.proofs.Evicting.{eviction_is_of_a_late_heartbeat}
-use Rattle.fk_law.proofs.Numbers.{itself}
+use Rattle.fk_base.proofs.Logic.{itself}
 
 -- It stays true. ---------------------------------------------------------------------------------------
 

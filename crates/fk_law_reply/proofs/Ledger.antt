@@ -26,7 +26,7 @@ use Rattle.fk_law_client.specs.Kept.{KeptFrom, Before, Told, Begun, begun_by}
 use Rattle.fk_law_client.proofs.Kept.{client_after, among_unready, kept_commands_have_their_source}
 use Rattle.fk_law_client.proofs.Operating.{client_operations_say}
 use Rattle.fk_law_reply.specs.Ledger.{BegunNeverFalls, OnlyBegunWereSent, SentNumberNeverChanges, HasOwnCause, IsEntered, IsMessage, KeptCommandsAreEntered, CommandsOfAnOperationAreEntered, message_number}
-use Rattle.fk_law.proofs.Numbers.{itself}
+use Rattle.fk_base.proofs.Logic.{itself}
 
 -- How many commands are begun. -------------------------------------------------------------------------
 
@@ -70,7 +70,7 @@ begun_never_falls p c h [] l = omega arith
 begun_never_falls p c h (e ∷ more) l = let a = begun_never_falls p c h more l.0 in let b = begun_grows p c e (more ++ h) l in omega (arith, a, b)
 
 -- how many are begun after an operation of client c
-own_begun : (p : Plan) (c : ℕ) (e : Entry) (h : List Entry) (o : Op) → e.op ≡ o → client_in o ≡ Some c → (client_of p c (e ∷ h)).begun ≡ (acted_by (sight_of p c h) o (client_of p c h)).begun
+pub own_begun : (p : Plan) (c : ℕ) (e : Entry) (h : List Entry) (o : Op) → e.op ≡ o → client_in o ≡ Some c → (client_of p c (e ∷ h)).begun ≡ (acted_by (sight_of p c h) o (client_of p c h)).begun
 own_begun p c e h o q f = subst (λ z. (client_by (sight_of p c h) (client_in z) z (client_of p c h)).begun ≡ (acted_by (sight_of p c h) o (client_of p c h)).begun) (sym q) (subst (λ z. (client_by (sight_of p c h) z o (client_of p c h)).begun ≡ (acted_by (sight_of p c h) o (client_of p c h)).begun) (sym f) (by_self (c == c) refl))
   where
     by_self : (b : Bool) → (c == c) ≡ b → (if b then flushed by_result (acted_by (sight_of p c h) o (client_of p c h)) else client_of p c h).begun ≡ (acted_by (sight_of p c h) o (client_of p c h)).begun

@@ -1,6 +1,6 @@
 -- What is computed of a schedule is what a schedule is.
-use Rattle.std.specs.Prelude.{◌==◌, if◌then◌else◌}
-use Rattle.std.proofs.Common.{◌≡◌, ℕ, Bool, true, false, List, [], ◌∷◌, ◌++◌, refl, sym, ◌∙◌, ap, subst, arith, Option, Some, None}
+use Rattle.std.specs.Prelude.{if◌then◌else◌}
+use Rattle.std.proofs.Common.{◌≡◌, Bool, true, false, List, [], ◌∷◌, ◌++◌, refl, sym, ◌∙◌, ap, subst, arith, Option, Some, None}
 use Rattle.std.proofs.lemmas.Option.{none-some, same_Some}
 use Rattle.std.proofs.lemmas.Bool.{false≢true}
 use Rattle.std.proofs.lemmas.Bool.Decides.{nat_tests}
@@ -13,26 +13,24 @@ use Rattle.fk_script.specs.declared.deployment.Turn.TheVariants as turn
 use Rattle.fk_spec.specs.Plan.{Plan, plan_of}
 use Rattle.fk_spec.specs.Schedule.{drain_begin, next_of_drain, Drains, Emptied, Empties, Goes, Plays, TakesTurn, TakesTurns}
 use Rattle.fk_law_schedule.specs.Computed.{drains_on, empties_on, goes_on, none_left, onto, plays_on, same_event, stops_here, then_cut, turn_on, turns_on, Cut, ScheduleIsComputed}
+use Rattle.fk_base.proofs.Logic.{itself}
 
 -- Events. ------------------------------------------------------------------------------------------
 
 pub same_is_equal : (a b : Event) → same_event a b ≡ true → a ≡ b
 same_is_equal a b e = grind (arith, nat_tests)
 
-itself_number : (n : ℕ) → (n == n) ≡ true
-itself_number n = grind (arith, nat_tests)
-
 itself : (a : Event) → same_event a a ≡ true
-itself (event.Client c) = itself_number c
-itself (event.Deliver c) = itself_number c
+itself (event.Client c) = itself c
+itself (event.Deliver c) = itself c
 itself event.Leader = refl
 itself event.Watch = refl
-itself (event.Beat c) = itself_number c
-itself (event.Step n) = itself_number n
-itself (event.Crash n) = itself_number n
-itself (event.Fail n) = itself_number n
-itself (event.FailClient c) = itself_number c
-itself (event.Clock t) = itself_number t
+itself (event.Beat c) = itself c
+itself (event.Step n) = itself n
+itself (event.Crash n) = itself n
+itself (event.Fail n) = itself n
+itself (event.FailClient c) = itself c
+itself (event.Clock t) = itself t
 
 pub equal_is_same : (a b : Event) → a ≡ b → same_event a b ≡ true
 equal_is_same a b e = subst (λ x. same_event a x ≡ true) e (itself a)

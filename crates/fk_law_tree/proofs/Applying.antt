@@ -1,20 +1,18 @@
 -- What an applied request leaves at each path, and that the nodes stay whole.
-use Rattle.std.proofs.Common.{◌≡◌, ◌<◌, ℕ, suc, Bool, true, false, cond, List, [], ◌∷◌, ◌++◌, Option, Some, None, refl, sym, ◌∙◌, ap, subst}
+use Rattle.std.proofs.Common.{◌≡◌, ◌<◌, ℕ, suc, Bool, true, false, List, [], ◌∷◌, ◌++◌, Option, Some, None, refl, sym, ◌∙◌, ap, subst}
 use Rattle.std.specs.Prelude.{is_some, not}
 use Rattle.std.specs.FinMap.{get}
 use Rattle.std.proofs.lemmas.Bool.{false≢true}
-use Rattle.fk_base.specs.Path.{Name, PathNames, parent, same_path, is_root}
+use Rattle.fk_base.specs.Path.{Name, PathNames, parent, is_root}
 use Rattle.fk_tree.specs.Sorted.{has_name, add_name, drop_name}
 use Rattle.fk_tree.specs.Tree.{Bare, Nodes, children, with_names, map_some, node_view, up}
 use Rattle.fk_tree.specs.View.{View}
-use Rattle.fk_tree.specs.Edit.{edit, edited, owner_for, create_edits, set_edits, delete_edits, part_edits, parts_edits, effects_of}
+use Rattle.fk_tree.specs.Edit.{edited, owner_for, create_edits, set_edits, delete_edits, part_edits, parts_edits, effects_of}
 use Rattle.fk_tree.specs.Fill.{final_path, made_of, fill_name, fill_made, fill_gone, fill_part, fill_parts, after_part}
 use Rattle.fk_tree.specs.Check.{check_part, check_parts, check_open, has_names}
 use Rattle.fk_tree.specs.Apply.{create_node, set_node, delete_node, apply_part, apply_parts, apply_nodes}
 use Rattle.fk_tree.specs.declared.applied.Applied.{Applied}
 use Rattle.fk_tree.specs.declared.edit.Edit.{Edit}
-use Rattle.fk_tree.specs.declared.edit.What.{What}
-use Rattle.fk_tree.specs.declared.edit.What.TheVariants as what
 use Rattle.fk_tree.specs.declared.node.Node.{Node}
 use Rattle.fk_tree.specs.declared.request.Part.{Part}
 use Rattle.fk_tree.specs.declared.request.Part.TheVariants as part
@@ -22,12 +20,12 @@ use Rattle.fk_tree.specs.declared.request.Request.{Request}
 use Rattle.fk_tree.specs.declared.request.Request.TheVariants as request
 use Rattle.fk_tree.proofs.Views.{has_children, set_view, create_view}
 use Rattle.fk_tree.proofs.Deletes.{delete_view}
-use Rattle.fk_tree.proofs.Alike.{plain}
+use Rattle.fk_tree.proofs.Alike.{plain, plain_edited}
 use Rattle.fk_tree.proofs.Keeping.{edited_both}
-use Rattle.fk_tree.proofs.Passing.{some_view, placed_none}
+use Rattle.fk_tree.proofs.Passing.{final_child, final_parent, placed_none, some_view}
 use Rattle.fk_tree.proofs.Standing.{deletes_view}
 use Rattle.fk_law_tree.specs.WellFormed.{is_unowned}
-use Rattle.fk_law_tree.proofs.Passing.{final_parent, final_below_root, first_passes, others_pass, CreatePasses, passed_create, DeletePasses, passed_delete}
+use Rattle.fk_law_tree.proofs.Passing.{first_passes, others_pass, CreatePasses, passed_create, DeletePasses, passed_delete}
 use Rattle.fk_law_tree.proofs.Whole.{is_free, IsWhole, has_parents, set_keeps, create_keeps, IsLeaf, AllLeaves, delete_keeps, deletes_keep, owned_leaves}
 
 -- A NODE WITHOUT ITS TIMES
@@ -39,41 +37,15 @@ came x tx n = record n { cversion = up n.cversion; made = up n.made; pzxid = tx;
 abbrev went : Name → ℕ → Node → Node
 went x tx n = record n { cversion = up n.cversion; pzxid = tx; names = drop_name x n.names }
 
-erased_edit : (tx moment : ℕ) (w : What) (o : Option Node) → map_some plain (edit tx moment w o) ≡ edit 0 0 w (map_some plain o)
-erased_edit tx moment (what.Make bytes owner) o = refl
-erased_edit tx moment (what.Replace bytes) None = refl
-erased_edit tx moment (what.Replace bytes) (Some n) = refl
-erased_edit tx moment what.Remove o = refl
-erased_edit tx moment (what.AddName x) None = refl
-erased_edit tx moment (what.AddName x) (Some n) = step (has_name x n.names)
-  where
-    step : (b : Bool) → Some (plain (cond b n (came x tx n))) ≡ Some (cond b (plain n) (came x 0 (plain n)))
-    step true = refl
-    step false = refl
-erased_edit tx moment (what.DropName x) None = refl
-erased_edit tx moment (what.DropName x) (Some n) = step (has_name x n.names)
-  where
-    step : (b : Bool) → Some (plain (cond b (went x tx n) n)) ≡ Some (cond b (went x 0 (plain n)) (plain n))
-    step true = refl
-    step false = refl
-
-erased_edited : (tx moment : ℕ) (p : PathNames) (es : List Edit) (o : Option Node) → map_some plain (edited tx moment p es o) ≡ edited 0 0 p es (map_some plain o)
-erased_edited tx moment p [] o = refl
-erased_edited tx moment p (e ∷ es) o = erased_edited tx moment p es (cond (same_path p e.path) (edit tx moment e.what o) o) ∙ ap (edited 0 0 p es) (step (same_path p e.path))
-  where
-    step : (b : Bool) → map_some plain (cond b (edit tx moment e.what o) o) ≡ cond b (edit 0 0 e.what (map_some plain o)) (map_some plain o)
-    step true = erased_edit tx moment e.what o
-    step false = refl
-
 -- the nodes of a view are those of a tree but for their times
 abbrev IsLike : View → Nodes → Type 0
 IsLike v t = (p : PathNames) → map_some plain (v.node p) ≡ map_some plain (node_view t p)
 
 like_after : (v : View) (t u : Nodes) (session tx moment : ℕ) (x : Part) → IsLike v t → ((p : PathNames) → node_view u p ≡ edited tx moment p (part_edits session x (fill_part v x)) (node_view t p)) → IsLike (after_part v session x) u
 like_after v t u session tx moment x l h p =
-    erased_edited 0 0 p (part_edits session x (fill_part v x)) (v.node p)
+    plain_edited 0 0 p (part_edits session x (fill_part v x)) (v.node p)
     ∙ ap (edited 0 0 p (part_edits session x (fill_part v x))) (l p)
-    ∙ sym (erased_edited tx moment p (part_edits session x (fill_part v x)) (node_view t p))
+    ∙ sym (plain_edited tx moment p (part_edits session x (fill_part v x)) (node_view t p))
     ∙ sym (ap (map_some plain) (h p))
 
 -- WHAT IS ALIKE
@@ -130,7 +102,7 @@ record IsFree (t : Nodes) (p : PathNames) : Type 0 where
 
 create_free : (v : View) (t : Nodes) (p : PathNames) (seq : Bool) → IsLike v t → (c : CreatePasses v p seq) → IsFree t (final_path p seq c.above.made)
 create_free v t p seq l c = record {
-  below_root = final_below_root p seq c.above.made c.below_root;
+  below_root = final_child p seq c.above.made c.below_root;
   above = ap (λ q. is_free (get t q)) (final_parent p seq c.above.made) ∙ sym (free_view t (parent p)) ∙ like_unowned (v.node (parent p)) (node_view t (parent p)) (l (parent p)) ∙ rw c.there c.unowned;
   free = sym (some_view t (final_path p seq c.above.made)) ∙ like_some (v.node (final_path p seq c.above.made)) (node_view t (final_path p seq c.above.made)) (l (final_path p seq c.above.made)) ∙ c.free;
 }

@@ -1,18 +1,17 @@
 -- What counts at a path.
-use Rattle.std.proofs.Common.{◌≡◌, ℕ, true, false, cond, ◌||◌, List, [], ◌∷◌, Option, refl, sym, ◌∙◌, ap, ◌≢◌, arith}
-use Rattle.std.proofs.lemmas.Bool.{false≢true, or_parts}
+use Rattle.std.proofs.Common.{◌≡◌, ℕ, true, false, cond, ◌||◌, [], ◌∷◌, refl, sym, ◌∙◌, ap, ◌≢◌, arith}
+use Rattle.std.proofs.lemmas.Bool.{false≢true}
 use Rattle.std.proofs.lemmas.Bool.Decides.{nat_tests}
 use Rattle.fk_base.specs.Path.{PathNames, same_path}
 use Rattle.fk_tree.specs.Sorted.{has_path}
 use Rattle.fk_tree.specs.Edit.{edit, edited, effects, view_after}
 use Rattle.fk_tree.specs.Touch.{edit_paths, edited_paths, edits_at}
-use Rattle.fk_tree.specs.declared.edit.Edit.{Edit}
-use Rattle.fk_tree.specs.declared.node.Node.{Node}
 use Rattle.fk_tree.specs.View.{start_view}
 use Rattle.fk_tree.specs.Rows.{is_of}
-use Rattle.fk_tree.proofs.Order.{by_test}
 use Rattle.fk_law_tree.specs.Editors.{editors, OnlyItsEditsCount, UneditedStays, OnlyEditorsCount, SameEditors, is_edited, OwnedWasEdited}
 use Rattle.fk_law_tree.proofs.Lists.{ordered_has}
+use Rattle.fk_base.proofs.Logic.{by_test}
+use Rattle.fk_tree.proofs.Written.{untouched}
 
 pub only_its_edits : OnlyItsEditsCount
 only_its_edits tx moment p [] o = refl
@@ -21,13 +20,8 @@ only_its_edits tx moment p (e ∷ es) o =
     (λ s. only_its_edits tx moment p es (edit tx moment e.what o) ∙ sym (ap (λ b. edited tx moment p (edits_at p es) (cond b (edit tx moment e.what o) o)) s))
     (λ _. only_its_edits tx moment p es o)
 
--- edits of other paths change nothing
-unedited : (tx moment : ℕ) (p : PathNames) (es : List Edit) (o : Option Node) → has_path p (edit_paths es) ≡ false → edited tx moment p es o ≡ o
-unedited tx moment p [] o h = refl
-unedited tx moment p (e ∷ es) o h = let f : same_path p e.path ≡ false = (or_parts _ _ h).0 in rw f (unedited tx moment p es o (or_parts (same_path p e.path) _ h).1)
-
 pub unedited_stays : UneditedStays
-unedited_stays v a p h = unedited a.tx a.moment p (effects a) (v.node p) (sym (ordered_has (edit_paths (effects a)) p) ∙ h)
+unedited_stays v a p h = untouched a.tx a.moment p (effects a) (v.node p) (sym (ordered_has (edit_paths (effects a)) p) ∙ h)
 
 pub only_editors : OnlyEditorsCount
 only_editors [] p = refl

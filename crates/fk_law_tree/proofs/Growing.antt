@@ -1,12 +1,11 @@
 -- Trees after applied requests show what their edits show.
 use Rattle.std.proofs.Common.{◌≡◌, ℕ, Bool, true, false, cond, eqb, ◌||◌, List, [], ◌∷◌, ◌++◌, Option, Some, None, refl, sym, ◌∙◌, ap, subst, arith}
 use Rattle.std.specs.Prelude.{is_some}
-use Rattle.std.specs.FinMap.{get}
 use Rattle.std.proofs.lemmas.Bool.{false≢true}
 use Rattle.std.proofs.lemmas.Bool.Decides.{nat_tests}
 use Rattle.fk_base.specs.Path.{Name, PathNames, path_cmp, parent, is_root, same_path}
 use Rattle.fk_tree.specs.Sorted.{has_name, has_path, rises}
-use Rattle.fk_tree.specs.Tree.{Bare, Nodes, Tree, children, with_names, map_some, node_view, start_tree}
+use Rattle.fk_tree.specs.Tree.{Nodes, Tree, children, node_view, start_tree}
 use Rattle.fk_tree.specs.View.{look, is_in, start_view, View}
 use Rattle.fk_tree.specs.Edit.{after, effects, closes}
 use Rattle.fk_tree.specs.Fill.{final_path, fill_gone, owned}
@@ -16,7 +15,7 @@ use Rattle.fk_tree.specs.declared.node.Node.{Node}
 use Rattle.fk_tree.specs.declared.request.Request.{Request}
 use Rattle.fk_tree.specs.declared.request.Request.TheVariants as request
 use Rattle.fk_tree.specs.Locks.{lock_paths}
-use Rattle.fk_tree.proofs.Order.{by_test, path_total, path_exact, same_path_is, same_name_self}
+use Rattle.fk_tree.proofs.Order.{path_total, path_exact, same_path_is, same_name_self}
 use Rattle.fk_tree.proofs.Rising.{same_rising}
 use Rattle.fk_tree.proofs.Views.{has_children, children_of}
 use Rattle.fk_tree.proofs.Passing.{some_view, passed_open}
@@ -34,6 +33,8 @@ use Rattle.fk_law_tree.proofs.Whole.{is_free, IsWhole}
 use Rattle.fk_law_tree.proofs.Reading.{at_head, check_reads, fill_reads}
 use Rattle.fk_law_tree.proofs.Holding.{reads_are_locked}
 use Rattle.fk_law_tree.proofs.Members.{has_append}
+use Rattle.fk_base.proofs.Logic.{by_test, none_is}
+use Rattle.fk_tree.proofs.Refusing.{names_are}
 
 -- FITTING
 gone_filled : (t : Nodes) (c : ℕ → Bool) (s : ℕ) (r : Request) (gone : List PathNames) → GoneIs (record { node = node_view t; closed = c }) s r gone → gone ≡ fill_gone t s r
@@ -95,11 +96,6 @@ applied_is_after t a w f = λ i. record { node = λ p. ((applied t a w f).node p
     closed_same true s = refl
     closed_same false s = refl
 
--- NODES WITH AN OWNER
-no_some : {A : Type 0} (o : Option A) → is_some o ≡ false → o ≡ None
-no_some None e = refl
-no_some (Some b) e = absurd (false≢true (sym e))
-
 -- a path whose node has an owner has no child
 owner_alone : (t : Tree) (p : PathNames) → IsWellFormed t → is_unowned ((look t).node p) ≡ false → (x : Name) → is_some ((look t).node (p ++ x ∷ [])) ≡ false
 owner_alone t p w u x = by_test (is_some ((look t).node (p ++ x ∷ []))) (λ c. c ≡ false) (λ s. absurd (false≢true (sym u ∙ w.parents p x s))) (λ _. refl)
@@ -111,15 +107,8 @@ names_none (n ∷ ns) f = absurd (false≢true (sym (f n) ∙ first))
     first : has_name n (n ∷ ns) ≡ true
     first = rw (same_name_self n) refl
 
-names_of_shown : (t : Nodes) (p : PathNames) (n : Node) → node_view t p ≡ Some n → n.names ≡ children t p
-names_of_shown t p n e = step (get t p) e
-  where
-    step : (o : Option Bare) → map_some (with_names (children t p)) o ≡ Some n → n.names ≡ children t p
-    step None e = absurd (cc)
-    step (Some b) e = let same : with_names (children t p) b ≡ n = cc in sym (ap (λ m. m.names) same)
-
 pub owners_have_no_child : OwnersHaveNoChild
-owners_have_no_child t p n w e o = (names_of_shown t.nodes p n e ∙ names_none (children t.nodes p) (λ x. has_children t.nodes p x ∙ sym (some_view t.nodes (p ++ x ∷ [])) ∙ none x), λ x. no_some _ (none x))
+owners_have_no_child t p n w e o = (names_are t.nodes p n e ∙ names_none (children t.nodes p) (λ x. has_children t.nodes p x ∙ sym (some_view t.nodes (p ++ x ∷ [])) ∙ none x), λ x. none_is _ (none x))
   where
     owned : eqb n.owner 0 ≡ false
     owned = grind (arith, nat_tests)
@@ -134,7 +123,7 @@ owned_final_missing t p q w (Some d) e h = step (eqb d.owner 0) refl h
   where
     step : (b : Bool) → eqb d.owner 0 ≡ b → has_path q (cond b [] (final_path p true d.made ∷ [])) ≡ true → (look t).node q ≡ None
     step true u h = absurd (false≢true h)
-    step false u h = no_some _ (rw (same_path_is q (final_path p true d.made) (one (same_path q (final_path p true d.made)) h)) (owner_alone t (parent p) w (rw e u) _))
+    step false u h = none_is _ (rw (same_path_is q (final_path p true d.made) (one (same_path q (final_path p true d.made)) h)) (owner_alone t (parent p) w (rw e u) _))
       where
         one : (b : Bool) → (b || false) ≡ true → b ≡ true
         one true e = refl

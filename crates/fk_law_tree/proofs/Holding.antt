@@ -19,15 +19,16 @@ use Rattle.fk_tree.specs.declared.request.Part.TheVariants as part
 use Rattle.fk_tree.specs.declared.request.Request.{Request}
 use Rattle.fk_tree.specs.declared.request.Request.TheVariants as request
 use Rattle.fk_tree.specs.Rows.{is_of}
-use Rattle.fk_tree.proofs.Order.{by_test, same_path_is, same_path_self}
-use Rattle.fk_tree.proofs.Passing.{passed_open, placed_none}
+use Rattle.fk_tree.proofs.Order.{same_path_is, same_path_self}
+use Rattle.fk_tree.proofs.Passing.{final_child, final_parent, passed_open, placed_none}
 use Rattle.fk_law_tree.specs.Locking.{Within, EditsAreLocked, owned_final, ReadsAreLocked, ReadsAreEdited, ListsOwned, GoneIsOwned, FitsByItsEdits, LocksReadLocked}
 use Rattle.fk_law_tree.specs.Reading.{final_paths, create_reads, part_reads, parts_reads, reads, AgreeOn}
 use Rattle.fk_law_tree.specs.Fitting.{GoneIs}
 use Rattle.fk_law_tree.proofs.Lists.{ordered_has}
 use Rattle.fk_law_tree.proofs.Members.{or_left, has_append, edit_paths_append}
-use Rattle.fk_law_tree.proofs.Passing.{final_parent, final_below_root, CreatePasses, passed_create}
+use Rattle.fk_law_tree.proofs.Passing.{CreatePasses, passed_create}
 use Rattle.fk_law_tree.proofs.Reading.{at_head, check_reads, fill_reads}
+use Rattle.fk_base.proofs.Logic.{by_test}
 
 -- LISTS
 either : (a b c : Bool) → (a ≡ true → c ≡ true) → (b ≡ true → c ≡ true) → (a || b) ≡ true → c ≡ true
@@ -74,7 +75,7 @@ delete_pair p q = pair_has p q what.Remove (what.DropName (last_name q))
 
 -- the final path of a create that passes, with its parent
 final_pair : (v : View) (p : PathNames) (seq : Bool) (c : CreatePasses v p seq) → with_parent (final_path p seq c.above.made) ≡ parent p ∷ final_path p seq c.above.made ∷ []
-final_pair v p seq c = rw (final_below_root p seq c.above.made c.below_root, final_parent p seq c.above.made) refl
+final_pair v p seq c = rw (final_child p seq c.above.made c.below_root, final_parent p seq c.above.made) refl
 
 create_name : (v : View) (p : PathNames) (seq : Bool) (c : CreatePasses v p seq) → final_path p seq (made_of (v.node (parent p))) ≡ final_path p seq c.above.made
 create_name v p seq c = rw c.there refl

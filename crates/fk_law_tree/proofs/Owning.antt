@@ -20,11 +20,11 @@ use Rattle.fk_tree.specs.declared.request.Request.{Request}
 use Rattle.fk_tree.specs.declared.request.Request.TheVariants as request
 use Rattle.fk_tree.specs.View.{View}
 use Rattle.fk_tree.specs.Rows.{is_of}
-use Rattle.fk_tree.proofs.Order.{and_left, and_right}
 use Rattle.fk_tree.proofs.Keeping.{edited_both}
 use Rattle.fk_tree.proofs.Owning.{owned_rises_in, owned_has}
 use Rattle.fk_law_tree.specs.Owners.{KeepsForeignOwners, OwnedAreTheOwners}
 use Rattle.fk_law_tree.specs.Fitting.{GoneIs, CloseLeavesNone}
+use Rattle.fk_base.proofs.Logic.{and_both, and_left, and_right}
 
 -- an edit makes a node of no owner or of this session
 abbrev is_own : ℕ → What → Bool
@@ -57,24 +57,20 @@ edited_owner tx moment s c p (d ∷ es) o i a b e =
     one true e = edit_owner tx moment s c d.what o (and_left _ _ i) a b e
     one false e = e
 
-both : (a b : Bool) → a ≡ true → b ≡ true → (a && b) ≡ true
-both true b e f = f
-both false b e f = e
-
 own_append : (s : ℕ) (es fs : List Edit) → all_own s es ≡ true → all_own s fs ≡ true → all_own s (es ++ fs) ≡ true
 own_append s [] fs a b = b
-own_append s (e ∷ es) fs a b = both (is_own s e.what) _ (and_left _ _ a) (own_append s es fs (and_right _ _ a) b)
+own_append s (e ∷ es) fs a b = and_both (is_own s e.what) _ (and_left _ _ a) (own_append s es fs (and_right _ _ a) b)
 
 own_parent : (s : ℕ) (p : PathNames) (w : What) → is_own s w ≡ true → all_own s (of_parent p w) ≡ true
 own_parent s [] w i = refl
-own_parent s (n ∷ p) w i = both (is_own s w) true i refl
+own_parent s (n ∷ p) w i = and_both (is_own s w) true i refl
 
 own_for : (s : ℕ) (eph : Bool) → (eqb (owner_for s eph) 0 || eqb (owner_for s eph) s) ≡ true
 own_for s true = grind (arith, nat_tests)
 own_for s false = refl
 
 own_create : (s : ℕ) (p : PathNames) (bytes : List ℕ) (eph : Bool) → all_own s (create_edits p bytes (owner_for s eph)) ≡ true
-own_create s p bytes eph = both (eqb (owner_for s eph) 0 || eqb (owner_for s eph) s) _ (own_for s eph) (own_parent s p (what.AddName (last_name p)) refl)
+own_create s p bytes eph = and_both (eqb (owner_for s eph) 0 || eqb (owner_for s eph) s) _ (own_for s eph) (own_parent s p (what.AddName (last_name p)) refl)
 
 own_deletes : (s : ℕ) (ps : List PathNames) → all_own s (deletes_edits ps) ≡ true
 own_deletes s [] = refl

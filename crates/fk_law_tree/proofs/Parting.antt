@@ -11,7 +11,6 @@ use Rattle.fk_tree.specs.declared.applied.Applied.{Applied}
 use Rattle.fk_tree.specs.declared.request.Request.{Request}
 use Rattle.fk_tree.specs.declared.request.Request.TheVariants as request
 use Rattle.fk_tree.specs.Rows.{is_of}
-use Rattle.fk_tree.proofs.Order.{by_test}
 use Rattle.fk_law_tree.specs.Disjoint.{AreApart, FitsAfterOthers, ApartCommute}
 use Rattle.fk_law_tree.specs.Fitting.{GoneIs}
 use Rattle.fk_law_tree.specs.Locking.{ListsOwned}
@@ -19,6 +18,7 @@ use Rattle.fk_law_tree.specs.Reading.{AgreeOn}
 use Rattle.fk_law_tree.proofs.Counting.{unedited_stays}
 use Rattle.fk_law_tree.proofs.Holding.{fits_by_its_edits}
 use Rattle.fk_law_tree.proofs.Owning.{keeps_foreign_owners}
+use Rattle.fk_base.proofs.Logic.{by_test}
 
 -- the other edits none of its paths
 apart_back : (a b : Applied) → AreApart a b → AreApart b a

@@ -9,15 +9,7 @@ use Rattle.fk_tree.specs.Fill.{final_path, after_part}
 use Rattle.fk_tree.specs.Check.{check_create, check_under, check_delete, check_part, check_parts, at_place, is_version, has_names}
 use Rattle.fk_tree.specs.declared.node.Node.{Node}
 use Rattle.fk_tree.specs.declared.request.Part.{Part}
-use Rattle.fk_tree.proofs.Passing.{placed_none, first_none, second_none, parent_child, child_root}
-
-pub final_parent : (p : PathNames) (seq : Bool) (made : ℕ) → parent (final_path p seq made) ≡ parent p
-final_parent p true made = parent_child (parent p) _
-final_parent p false made = refl
-
-pub final_below_root : (p : PathNames) (seq : Bool) (made : ℕ) → is_root p ≡ false → is_root (final_path p seq made) ≡ false
-final_below_root p true made e = child_root (parent p) _
-final_below_root p false made e = e
+use Rattle.fk_tree.proofs.Passing.{first_none, placed_none, second_none}
 
 -- where parts pass, the first does, and the others do after it
 pub first_passes : (v : View) (session place : ℕ) (x : Part) (xs : List Part) → check_parts v session place (x ∷ xs) ≡ None → check_part v x ≡ None

@@ -16,11 +16,12 @@ use Rattle.fk_tree.specs.Sorted.{has_path}
 use Rattle.fk_tree.specs.Edit.{effects, effects_of, of_parent, owner_for, set_edits, delete_edits, deletes_edits, part_edits, parts_edits}
 use Rattle.fk_tree.specs.Touch.{same_touch, others, once, with_parent_touched, set_touches, deletes_touches, part_touches, parts_touches, touches_of, edit_paths}
 use Rattle.fk_tree.specs.Watch.{has_touch}
-use Rattle.fk_tree.proofs.Order.{by_test, and_left, same_path_is}
+use Rattle.fk_tree.proofs.Order.{same_path_is}
 use Rattle.fk_tree.proofs.Looking.{same_flip}
 use Rattle.fk_law_tree.specs.Touching.{TouchPaths}
 use Rattle.fk_law_tree.proofs.Lists.{ordered_has}
 use Rattle.fk_law_tree.proofs.Members.{has_append, edit_paths_append}
+use Rattle.fk_base.proofs.Logic.{and_left, by_test}
 
 -- without the others of one that is there
 others_has : (p : PathNames) (t : Touch) (us : List Touch) → has_touch p (t ∷ others t us) ≡ has_touch p (t ∷ us)

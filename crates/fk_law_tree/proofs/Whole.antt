@@ -12,9 +12,10 @@ use Rattle.fk_tree.specs.Tree.{Bare, Nodes, map_some, fresh}
 use Rattle.fk_tree.specs.Rows.{HasParents}
 use Rattle.fk_tree.specs.Fill.{owned, owned_in}
 use Rattle.fk_tree.specs.Apply.{grown, shrunk, replaced, at_path, create_node, set_node, delete_node, delete_nodes}
-use Rattle.fk_tree.proofs.Order.{by_test, and_left, tested, tested_left, tested_right, path_total, same_path_is, same_path_self, same_child, child_apart, child_parts}
-use Rattle.fk_tree.proofs.Views.{with_node, get_at_path, some_at_path, some_create, no_child}
+use Rattle.fk_tree.proofs.Order.{tested, tested_left, tested_right, path_total, same_path_is, same_path_self, same_child, child_apart, child_parts}
+use Rattle.fk_tree.proofs.Views.{free_some, get_at_path, no_child, some_at_path, some_create, with_node}
 use Rattle.fk_tree.proofs.Deletes.{some_delete}
+use Rattle.fk_base.proofs.Logic.{and_left, by_test}
 
 -- a node is there, and it has no owner
 abbrev pub is_free : Option Bare → Bool
@@ -25,10 +26,6 @@ is_free (Some b) = eqb b.owner 0
 pub record IsWhole (t : Nodes) : Type 0 where
   pub root : is_free (get t []) ≡ true
   pub parents : (p : PathNames) (n : Name) → is_some (get t (p ++ n ∷ [])) ≡ true → is_free (get t p) ≡ true
-
-free_some : (o : Option Bare) → is_free o ≡ true → is_some o ≡ true
-free_some None e = e
-free_some (Some b) e = refl
 
 pub has_parents : (t : Nodes) → IsWhole t → HasParents t
 has_parents t w p n s = assumption (w.parents p n s, free_some (get t p) (w.parents p n s))

@@ -22,13 +22,13 @@ use Rattle.fk_law.specs.Due.{IsDue}
 use Rattle.fk_law.specs.Losing.{IsDead}
 use Rattle.fk_law.specs.LeaderLane.{is_swept, Stands}
 use Rattle.fk_law.proofs.Due.{due}
-use Rattle.fk_law.proofs.Numbers.{itself}
 use Rattle.fk_law.proofs.Leading.{leader_stands_where_it_may, swept_up_to_the_sweep, done_is_removed_or_one_more, leader_at_or_below_the_head, commits_are_beyond_the_sweep, mark_grows}
 use Rattle.fk_law.proofs.Moving.{OnLeader, leader_step}
 use Rattle.fk_law.proofs.Starting.{leader_task}
 use Rattle.fk_law_watch.specs.Noting.{fired_at_in, fired_at, tells_all, is_told, notes, is_noted, untold, IsFull, HasInHand, HandsSo, Hands, FiredListInHand, NoteTellsWhatItsPushFired, FiredPushIsNotedBeforeDone}
 use Rattle.fk_law_watch.proofs.Sweeps.{swept_was_committed}
 use Rattle.fk_law_watch.proofs.Noting.{unswept_fired, fired_stays, stands_swept, note_published, told_published, fired_is_listed}
+use Rattle.fk_base.proofs.Logic.{itself}
 
 -- What a sweep gives, and nothing else does. -----------------------------------------------------------
 

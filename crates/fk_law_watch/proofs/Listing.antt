@@ -7,12 +7,13 @@ use Rattle.fk_base.specs.Path.{PathNames, same_path}
 use Rattle.fk_tree.specs.Watch.{first_taken, same_kind}
 use Rattle.fk_tree.specs.declared.change.Change.{Change}
 use Rattle.fk_tree.specs.declared.change.Kind.{Kind}
-use Rattle.fk_tree.specs.declared.change.Kind.TheVariants as kind
 use Rattle.fk_tree.specs.declared.change.Touch.{Touch}
 use Rattle.fk_spec.specs.Start.{or_else}
 use Rattle.fk_spec.specs.Watches.{Watch, Firing, has_id, kept_unless, not_fired, fired_as, firings, firing_with, set_number}
 use Rattle.fk_spec.specs.WatchNumbers.{watch_with}
 use Rattle.fk_law.proofs.Losing.{same_sym}
+use Rattle.fk_tree.proofs.SameKind.{same_kind_sym}
+use Rattle.std.proofs.lemmas.Option.{same_Some}
 
 pub or_maps : (a b c : Bool) → (b ≡ true → c ≡ true) → (a || b) ≡ true → (a || c) ≡ true
 or_maps true b c f e = refl
@@ -178,14 +179,8 @@ append_number c path k (v ∷ ws) w e f = one (is_of c path k v) e (λ a. append
     one true e i = absurd (grind arith)
     one false e i = i e
 
-kind_sym : (a b : Kind) → same_kind a b ≡ true → same_kind b a ≡ true
-kind_sym kind.Data kind.Data e = e
-kind_sym kind.Child kind.Child e = e
-kind_sym kind.Data kind.Child e = e
-kind_sym kind.Child kind.Data e = e
-
 of_sym : (v w : Watch) → is_of v.session v.path v.kind w ≡ true → is_of w.session w.path w.kind v ≡ true
-of_sym v w e = grind (arith, nat_tests, same_sym w.path v.path, kind_sym w.kind v.kind)
+of_sym v w e = grind (arith, nat_tests, same_sym w.path v.path, same_kind_sym w.kind v.kind)
 
 head_number : (c : ℕ) (path : PathNames) (k : Kind) (w : Watch) (ws : List Watch) → set_number c path k (w ∷ ws) ≡ None → (is_of c path k w ≡ false) × (set_number c path k ws ≡ None)
 head_number c path k w ws e = one (is_of c path k w) e
@@ -200,15 +195,12 @@ append_apart (v ∷ ws) w u e =
     let r = head_number w.session w.path w.kind v ws e in
     (append_number v.session v.path v.kind ws w u.0 (false_from_ne_true (is_of v.session v.path v.kind w) (λ a. false≢true (sym r.0 ∙ of_sym v w a))), append_apart ws w u.1 r.1)
 
-some_same : (x y : Watch) → Some x ≡ Some y → x ≡ y
-some_same x y e = cc
-
 none_of : (j c : ℕ) (path : PathNames) (k : Kind) (ws : List Watch) (w : Watch) → watch_with j ws ≡ Some w → set_number c path k ws ≡ None → is_of c path k w ≡ false
 none_of j c path k [] w e f = absurd (grind arith)
 none_of j c path k (v ∷ ws) w e f = one (v.id == j) e (head_number c path k v ws f) (none_of j c path k ws w)
   where
     one : (b : Bool) → (if b then Some v else watch_with j ws) ≡ Some w → (is_of c path k v ≡ false) × (set_number c path k ws ≡ None) → (watch_with j ws ≡ Some w → set_number c path k ws ≡ None → is_of c path k w ≡ false) → is_of c path k w ≡ false
-    one true a r i = subst (λ x. is_of c path k x ≡ false) (some_same v w a) r.0
+    one true a r i = subst (λ x. is_of c path k x ≡ false) (same_Some v w a) r.0
     one false a r i = i a r.1
 
 pub set_number_has : (c : ℕ) (path : PathNames) (k : Kind) (ws : List Watch) (id : ℕ) → set_number c path k ws ≡ Some id → has_id id ws ≡ true
@@ -229,11 +221,11 @@ apart_differ i j (x ∷ ws) v w u e f g = by_tests (x.id == i) (x.id == j) refl 
     by_tests : (a b : Bool) → (x.id == i) ≡ a → (x.id == j) ≡ b → (if a then Some x else watch_with i ws) ≡ Some v → (if b then Some x else watch_with j ws) ≡ Some w → (watch_with i ws ≡ Some v → watch_with j ws ≡ Some w → i ≡ j) → i ≡ j
     by_tests true true c d e f k = grind (arith, nat_tests)
     by_tests true false c d e f k =
-        let s = some_same x v e in
+        let s = same_Some x v e in
         let n = none_of j v.session v.path v.kind ws w f (subst (λ y. set_number y.session y.path y.kind ws ≡ None) s u.0) in
         absurd (false≢true (sym n ∙ of_sym w v g))
     by_tests false true c d e f k =
-        let s = some_same x w f in
+        let s = same_Some x w f in
         let n = none_of i w.session w.path w.kind ws v e (subst (λ y. set_number y.session y.path y.kind ws ≡ None) s u.0) in
         absurd (false≢true (sym n ∙ g))
     by_tests false false c d e f k = k e f

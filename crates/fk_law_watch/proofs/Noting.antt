@@ -25,11 +25,11 @@ use Rattle.fk_law.specs.LeaderLane.{sweeps, is_swept}
 use Rattle.fk_law.proofs.Due.{due}
 use Rattle.fk_law.proofs.Leading.{leader_stands_where_it_may, mark_behind_sweep, swept_up_to_the_sweep, mark_grows}
 use Rattle.fk_law.proofs.Moving.{place_step, moved_follower, moved_leader}
-use Rattle.fk_law.proofs.Numbers.{itself}
 use Rattle.fk_law_watch.specs.Noting.{fired_at_in, fired_at, tells_all, is_told, notes, is_noted, untold, FiredIsListedUntilTold, FiredAtItsPush, FiredOfAPush}
 use Rattle.fk_law_watch.proofs.Sweeps.{swept_most}
 use Rattle.fk_law_watch.proofs.Listing.{AreUnique, fired_of}
 use Rattle.fk_law_watch.proofs.SetWatches.{by_or, new_sweep_beyond, watches_unique, fires_once, fired_watch_fired_at_its_first_change}
+use Rattle.fk_base.proofs.Logic.{itself}
 
 -- What a push fired. -----------------------------------------------------------------------------------
 

@@ -9,7 +9,7 @@ use Rattle.fk_tree.specs.Edit.{effects, effects_of}
 use Rattle.fk_tree.specs.declared.edit.Edit.{Edit}
 use Rattle.fk_tree.specs.declared.request.Request.{Request}
 use Rattle.fk_tree.specs.declared.request.Request.TheVariants as request
-use Rattle.fk_tree.proofs.Order.{by_test, same_path_is}
+use Rattle.fk_tree.proofs.Order.{same_path_is}
 use Rattle.fk_tree.specs.Touch.{edits_at}
 use Rattle.fk_user.specs.Own.{are_own}
 use Rattle.fk_user.proofs.Owning.{own_are_own}
@@ -17,6 +17,7 @@ use Rattle.fk_tree.proofs.Looking.{same_flip}
 use Rattle.fk_wire.specs.declared.message.Pushed.{Pushed}
 use Rattle.fk_settle.specs.Transaction.{applied_as}
 use Rattle.fk_lead.specs.Indexed.{AreByPath, IsIndexOf, kept_at, or_no_edits}
+use Rattle.fk_base.proofs.Logic.{by_test}
 
 abbrev pub EditMap : Type 0
 EditMap = BTreeMap PathNames (List Edit)

@@ -1,6 +1,5 @@
 -- Which histories are well formed for the names of clients.
-use Rattle.std.specs.Prelude.{◌≡◌, ℕ, ◌<◌, ◌≤◌, ◌^◌, Bool, true, false, ⊤, List, [], ◌∷◌, length}
-use lib.IntN.{ℤ}
+use Rattle.std.specs.Prelude.{◌≡◌, ℕ, ◌≤◌, Bool, true, false, ⊤, List, length}
 use Rattle.std.specs.List.{AllByRecursion}
 use Rattle.std.specs.Str.{is_utf8}
 use Rattle.fk_base.specs.Limits.{IsData, IsExpected, IsNumber, IsPath, IsSmall}

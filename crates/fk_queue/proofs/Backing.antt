@@ -4,7 +4,6 @@ use Rattle.std.specs.Prelude.{is_some, unwrap_or}
 use Rattle.std.proofs.lemmas.List.{map-append}
 use Rattle.fk_region.specs.declared.ticket.Ticket.{Ticket}
 use Rattle.fk_region.specs.Kept.{Kept, blocks_of, bytes_of, bytes_under, is_kept, same_ticket, used_by, with_kept, without_ticket}
-use Rattle.fk_region.proofs.Apart.{by_test}
 use Rattle.fk_region.proofs.Keeping.{found_with, others_with, others_without, same_flip, same_is, same_self, used_with, used_without}
 use Rattle.fk_queue.specs.declared.lane.Lane.{Lane}
 use Rattle.fk_queue.specs.declared.slip.Slip.{Slip}
@@ -15,6 +14,7 @@ use Rattle.fk_queue.specs.Meaning.{over_lanes, with_lane}
 use Rattle.fk_queue.specs.Slips.{IsFirstGone, IsFirstKept, Slips, how_often, lane_of, later, letter_of, no_slips, tickets_in, with_slip, without_first, without_ticket_of}
 use Rattle.fk_queue.proofs.Counting.{counted_with, no_more_than_all}
 use Rattle.fk_queue.proofs.Standing.{same_lane_is}
+use Rattle.fk_base.proofs.Logic.{by_test}
 
 -- how often a ticket is that of a message in a lane
 abbrev pub how_often_in : Ticket → Slips → ℕ

@@ -4,7 +4,6 @@ use Rattle.std.specs.Prelude.{is_some}
 use Rattle.std.proofs.lemmas.List.{length_push}
 use Rattle.std.proofs.lemmas.Bool.{eqb-true, eq-eqb}
 use Rattle.std.proofs.lemmas.Bool.Decides.{nat_tests}
-use Rattle.fk_region.proofs.Apart.{by_test}
 use Rattle.fk_region.specs.Kept.{blocks_of}
 use Rattle.fk_queue.specs.declared.lane.Lane.{Lane}
 use Rattle.fk_queue.specs.declared.lane.Lane.TheVariants as lane
@@ -12,6 +11,7 @@ use Rattle.fk_queue.specs.Lanes.{is_lane, is_session}
 use Rattle.fk_queue.specs.declared.letter.Letter.{Letter}
 use Rattle.fk_queue.specs.Letters.{LaneState, empty_lane, first_bytes, first_number, head_bytes, head_number, rest, with_letter, without_head}
 use Rattle.fk_queue.specs.Meaning.{blocks_among, blocks_for, length_of, over_lanes, sum_to, waiting_among, with_lane}
+use Rattle.fk_base.proofs.Logic.{by_test}
 
 -- SUMS
 -- numbers that differ only at k

@@ -1,12 +1,12 @@
 -- The numbers of a lane.
 use Rattle.std.proofs.Common.{◌≡◌, ℕ, zero, suc, ◌+◌, ◌-◌, cond, List, [], ◌∷◌, ◌++◌, length, refl, ◌∙◌, ap, arith}
 use Rattle.std.proofs.lemmas.List.{length_push, map-append}
-use Rattle.fk_region.proofs.Apart.{by_test}
 use Rattle.fk_queue.specs.declared.lane.Lane.{Lane}
 use Rattle.fk_queue.specs.declared.letter.Letter.{Letter}
 use Rattle.fk_queue.specs.Lanes.{same_lane}
 use Rattle.fk_queue.specs.Letters.{IsNumbered, LaneState, empty_lane, numbers_after, with_letter, without_head}
 use Rattle.fk_queue.specs.Meaning.{with_lane}
+use Rattle.fk_base.proofs.Logic.{by_test}
 
 numbers_more : (n count m : ℕ) → m ≡ n + count → numbers_after n count ++ suc m ∷ [] ≡ numbers_after n (suc count)
 numbers_more n zero m e = let same : m ≡ n = omega arith in ap (λ k. suc k ∷ []) same

@@ -2,13 +2,13 @@
 use Rattle.std.proofs.Common.{◌≡◌, ◌≢◌, ℕ, ◌+◌, ◌*◌, ◌<◌, true, false, cond, List, length, get_or, set, replicate, refl, sym, ◌∙◌, ap, subst, arith}
 use Rattle.std.proofs.lemmas.Bool.Decides.{nat_tests}
 use Rattle.std.proofs.lemmas.List.{get_or-set_same, get_or-set_other, get_or_default, get_or-replicate}
-use Rattle.fk_region.proofs.Apart.{by_test}
 use Rattle.fk_queue.specs.declared.lane.Lane.{Lane}
 use Rattle.fk_queue.specs.declared.lane.Lane.TheVariants as lane
 use Rattle.fk_queue.specs.Lanes.{is_lane, same_lane}
 use Rattle.fk_queue.specs.Meaning.{with_lane}
 use Rattle.fk_queue.specs.Places.{place_of, slips_of}
 use Rattle.fk_queue.specs.Slips.{Slips, no_slips}
+use Rattle.fk_base.proofs.Logic.{by_test}
 
 pub same_lane_self : (l : Lane) → same_lane l l ≡ true
 same_lane_self lane.Leader = refl

@@ -17,15 +17,8 @@ use Rattle.fk_print.specs.WellFormed.{IsClient}
 use Rattle.fk_read.specs.Cut.{words_in}
 use Rattle.fk_read.specs.Reads.{take}
 use Rattle.fk_read.specs.ReadWords.{client_of, number_of, place_from}
-use Rattle.fk_read.proofs.WordsBack.{and_both, is_bare, take_back, words_in_bare}
-
-and_left : (a b : Bool) → (a && b) ≡ true → a ≡ true
-and_left true b e = refl
-and_left false b e = absurd (false≢true e)
-
-and_right : (a b : Bool) → (a && b) ≡ true → b ≡ true
-and_right true b e = e
-and_right false b e = absurd (false≢true e)
+use Rattle.fk_read.proofs.WordsBack.{is_bare, take_back, words_in_bare}
+use Rattle.fk_base.proofs.Logic.{and_both, and_left, and_right}
 
 three : (a b c : Bool) → (a && b && c) ≡ true → (a ≡ true) × (b ≡ true) × (c ≡ true)
 three true true true e = (refl, refl, refl)

@@ -14,8 +14,9 @@ use Rattle.fk_base.specs.Limits.{IsData}
 use Rattle.fk_read.specs.Cut.{words_in}
 use Rattle.fk_read.specs.Reads.{take}
 use Rattle.fk_read.specs.ReadWords.{data_of}
-use Rattle.fk_read.proofs.WordsBack.{and_both, and_left, and_right, bare_append, is_bare, take_back}
+use Rattle.fk_read.proofs.WordsBack.{bare_append, is_bare, take_back}
 use Rattle.fk_read.proofs.Shown.{bare_shown, is_shown}
+use Rattle.fk_base.proofs.Logic.{and_both, and_left, and_right}
 
 -- every symbol of base64 is beyond the space
 

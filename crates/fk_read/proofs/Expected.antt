@@ -1,11 +1,7 @@
 -- An expected version reads back from its word.
-use Rattle.std.proofs.Common.{◌≡◌, ℕ, ◌^◌, Bool, true, false, List, [], ◌∷◌, ◌++◌, codes, pos, negsuc, Some, refl, arith}
+use Rattle.std.proofs.Common.{◌≡◌, true, List, ◌++◌, pos, negsuc, Some, refl, arith}
 use lib.IntN.{ℤ}
-use Rattle.std.specs.Prelude.{◌&&◌, ◌==◌}
-use Rattle.std.specs.Char.{is_ascii_digit}
-use Rattle.std.specs.Fmt.{decimal, digits, signed_decimal}
-use Rattle.std.specs.Str.{all_ascii_digits, bytes_eq}
-use Rattle.std.proofs.lemmas.Bool.Decides.{nat_tests}
+use Rattle.std.specs.Fmt.{digits, signed_decimal}
 use Rattle.fk_base.specs.Digits.{expected_of}
 use Rattle.fk_base.specs.Limits.{IsExpected}
 use Rattle.fk_base.proofs.Numerals.{expected_back}

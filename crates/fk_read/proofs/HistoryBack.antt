@@ -20,12 +20,12 @@ use Rattle.fk_read.specs.Cut.{is_byte_at, lines_in, words_in}
 use Rattle.fk_read.specs.Reads.{then_word}
 use Rattle.fk_read.specs.ReadHistory.{closed, history_of, marked_line, nothing_read, read_lines, with_event}
 use Rattle.fk_read.specs.declared.reading.Reading.{Reading}
-use Rattle.fk_read.proofs.WordsBack.{and_both, and_left, and_right}
 use Rattle.fk_read.proofs.EventsBack.{event_back, event_shown}
 use Rattle.fk_read.proofs.LinesBack.{line_back, line_shown, line_words}
 use Rattle.fk_read.proofs.OpsBack.{op_back}
 use Rattle.fk_read.proofs.OpsShown.{op_shown}
 use Rattle.fk_read.proofs.Shown.{AreShown, is_shown}
+use Rattle.fk_base.proofs.Logic.{and_both, and_left, and_right}
 
 -- there is a piece at least
 some_piece : (p : ℕ → Bool) (text : Text) → (first : Text) × (more : List Text) × (slice_split p text ≡ first ∷ more)

@@ -1,18 +1,15 @@
 -- What a word that is no text says, and a path's.
-use Rattle.std.proofs.Common.{◌≡◌, ℕ, Bool, true, false, List, Some, refl}
+use Rattle.std.proofs.Common.{◌≡◌, ℕ, true, false, List, Some}
 use Rattle.std.specs.Str.{is_utf8, IsUtf8}
 use Rattle.std.proofs.lemmas.Str.{IsUtf8-from_is_utf8, is_utf8-from_IsUtf8}
 use Rattle.fk_base.specs.Path.{PathNames, path_of}
 use Rattle.fk_base.proofs.PathTexts.{reads_its_text}
 use Rattle.fk_base.specs.Limits.{IsPath}
 use Rattle.fk_read.specs.ReadWords.{path_of_word}
-
-by_test : (b : Bool) → ¬ (b ≡ true) → b ≡ false
-by_test true no_test = absurd (no_test refl)
-by_test false no_test = refl
+use Rattle.fk_base.proofs.Logic.{not_true}
 
 pub not_utf8 : (bytes : List ℕ) → ¬ IsUtf8 bytes → is_utf8 bytes ≡ false
-not_utf8 bytes no_text = by_test (is_utf8 bytes) (λ e. no_text (IsUtf8-from_is_utf8 bytes e))
+not_utf8 bytes no_text = not_true (is_utf8 bytes) (λ e. no_text (IsUtf8-from_is_utf8 bytes e))
 
 pub path_is : (word text : List ℕ) (p : PathNames) → text ≡ word → IsUtf8 word → path_of text ≡ Some p → path_of_word word ≡ Some p
 unfolding path_of_word

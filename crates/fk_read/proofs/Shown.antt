@@ -13,9 +13,10 @@ use Rattle.fk_print.specs.OpText.{word_text}
 use Rattle.fk_print.specs.WellFormed.{IsClient, IsShownName}
 use Rattle.fk_base.specs.Limits.{IsNumber, IsPath, IsSmall}
 use Rattle.fk_print.specs.declared.op.Word.{Word}
-use Rattle.fk_read.proofs.WordsBack.{and_both, bare_at, bare_code, bare_decimal, bare_name, bare_path, is_bare}
+use Rattle.fk_read.proofs.WordsBack.{bare_at, bare_code, bare_decimal, bare_name, bare_path, is_bare}
 use Rattle.fk_read.proofs.ClientsBack.{bare_client}
 use Rattle.fk_read.proofs.SpotsBack.{bare_word}
+use Rattle.fk_base.proofs.Logic.{and_both}
 
 abbrev pub is_shown : Text → Bool
 is_shown = list_all (λ b. nat_le 32 b)

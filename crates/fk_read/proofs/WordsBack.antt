@@ -1,39 +1,28 @@
 -- What each word of a line reads back to.
-use Rattle.std.proofs.Common.{◌≡◌, ℕ, ◌<◌, ◌^◌, Bool, true, false, List, [], ◌∷◌, ◌++◌, length, Option, Some, refl, sym, arith, nat_lt}
-use Rattle.std.specs.Prelude.{◌&&◌, ◌==◌, nat_le, not}
+use Rattle.std.proofs.Common.{◌≡◌, ℕ, ◌<◌, ◌^◌, Bool, true, false, List, [], ◌∷◌, ◌++◌, Option, Some, refl, arith}
+use Rattle.std.specs.Prelude.{◌&&◌, nat_le}
 use Rattle.std.specs.List.{AllByRecursion, list_all}
 use Rattle.std.specs.Fmt.{decimal}
 use Rattle.std.specs.Char.{is_ascii_digit}
 use Rattle.std.specs.Str.{all_ascii_digits}
-use Rattle.std.proofs.lemmas.Bool.{false≢true}
 use Rattle.std.proofs.lemmas.Bool.Decides.{nat_tests}
-use Rattle.fk_base.specs.Path.{Name, PathNames, are_names, is_name, has_barred, is_dots, names_text, path_text}
+use Rattle.fk_base.specs.Path.{Name, PathNames, are_names, is_name, has_barred, names_text, path_text}
 use Rattle.fk_base.specs.Code.{name_of}
 use Rattle.fk_base.specs.declared.code.Code.{Code}
 use Rattle.fk_base.specs.declared.code.Code.TheVariants as code
 use Rattle.fk_base.proofs.Numerals.{below_back, decimal_digits}
-use Rattle.fk_base.proofs.PathTexts.{text_reads_back}
+use Rattle.fk_base.proofs.PathTexts.{name_clean, text_reads_back}
 use Rattle.fk_print.specs.Words.{Text, at}
 use Rattle.fk_base.specs.Limits.{IsNumber, IsSmall, IsPath}
 use Rattle.fk_read.specs.Cut.{is_byte_at, words_in}
 use Rattle.fk_read.specs.Reads.{take}
 use Rattle.fk_read.specs.ReadWords.{at_of, code_of, number_of, small_of, path_of_word}
 use Rattle.fk_read.proofs.Cuts.{cut_none}
+use Rattle.fk_base.proofs.Logic.{and_both, and_left, and_right}
 
 -- every byte is beyond the space
 abbrev pub is_bare : Text → Bool
 is_bare = list_all (λ b. nat_le 33 b)
-
-pub and_left : (a b : Bool) → (a && b) ≡ true → a ≡ true
-and_left true b e = refl
-and_left false b e = absurd (false≢true e)
-
-pub and_right : (a b : Bool) → (a && b) ≡ true → b ≡ true
-and_right true b e = e
-and_right false b e = absurd (false≢true e)
-
-pub and_both : (a b : Bool) → a ≡ true → b ≡ true → (a && b) ≡ true
-and_both a b e f = rw (e, f) refl
 
 no_space : (b : ℕ) → nat_le 33 b ≡ true → is_byte_at 32 b ≡ false
 no_space b e = grind (arith, nat_tests)
@@ -119,15 +108,8 @@ unbarred_bare : (n : Text) → has_barred n ≡ false → is_bare n ≡ true
 unbarred_bare [] h = refl
 unbarred_bare (c ∷ n) h = let s = barred_bare c n h in rw (s.0, unbarred_bare n s.1) refl
 
-name_unbarred : (n : Name) → is_name n ≡ true → has_barred n ≡ false
-name_unbarred n e = not_true (has_barred n) (and_right (not (is_dots n)) (not (has_barred n)) e)
-  where
-    not_true : (b : Bool) → not b ≡ true → b ≡ false
-    not_true true e = sym e
-    not_true false e = refl
-
 pub bare_name : (n : Name) → is_name n ≡ true → is_bare n ≡ true
-bare_name n e = unbarred_bare n (name_unbarred n e)
+bare_name n e = unbarred_bare n (name_clean n e)
 
 pub bare_append : (a b : Text) → is_bare a ≡ true → is_bare b ≡ true → is_bare (a ++ b) ≡ true
 bare_append [] b e f = f

@@ -1,7 +1,7 @@
 -- Replies that are refused. Most change the run of a client that creates `/x`, reads it with a watch, and sets it:
 -- its replies stand at places 27, 24 and 0, the lines of its transactions at 32 and 11.
 use Rattle.std.specs.Prelude.{◌==◌}
-use Rattle.std.proofs.Common.{◌≡◌, ℕ, Bool, true, false, List, refl, sym, subst, negsuc, codes, Option, Some, None}
+use Rattle.std.proofs.Common.{◌≡◌, ℕ, Bool, true, false, List, refl, sym, subst, negsuc, codes}
 use Rattle.std.proofs.lemmas.Bool.{false≢true}
 use Rattle.fk_base.specs.Path.{same_name}
 use Rattle.fk_base.specs.declared.code.Code.TheVariants as code
@@ -18,14 +18,11 @@ use Rattle.fk_spec.specs.Shown.{shown_number}
 use Rattle.fk_refused.proofs.Telling.{apart, some_none}
 use Rattle.fk_refused.proofs.Trees.{made_shown}
 use Rattle.fk_refused.specs.Replies.{AnswerBeyondTheLines, ExpiredBeyondTheLines, LostWithALine, MissingThatIsThere, OtherAnswer, OtherNumber, OtherVerb, OtherVersion, PlainWithALine, ReadAnsweredAsAWrite, RefusedWithALine, RepeatedReply, RepliesOutOfOrder, ReplyBeforeItsLine, ReplyByAnotherLine, ReplyToNoCommand, at_x, made_stat}
+use Rattle.fk_spec.specs.Follower.{is_number}
 
 abbrev is_create : Verb → Bool
 is_create verb.Create = true
 is_create _ = false
-
-abbrev is_at : ℕ → Option ℕ → Bool
-is_at n None = false
-is_at n (Some m) = m == n
 
 abbrev is_version : ℕ → Shown → Bool
 is_version n (shown.Version tx version) = version == n
@@ -48,7 +45,7 @@ pub other_verb : OtherVerb
 other_verb r = apart is_create r.0.1.0 refl refl
 
 pub other_number : OtherNumber
-other_number r = apart (λ s. is_at 1 (shown_number s)) r.0.1.1 refl refl
+other_number r = apart (λ s. is_number 1 (shown_number s)) r.0.1.1 refl refl
 
 pub other_version : OtherVersion
 other_version r = apart (is_version 5) (subst (λ v. shown.Version 2 5 ≡ shown.Version 2 (fill_version v (request.Set at_x (codes "1") (negsuc 0)))) made_shown r.0.1.1) refl refl

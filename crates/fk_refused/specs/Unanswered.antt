@@ -2,11 +2,13 @@
 use Rattle.std.specs.Prelude.{[], ◌∷◌, codes}
 use Rattle.fk_script.specs.declared.deployment.Deployment.{Deployment}
 use Rattle.fk_spec.specs.Schedule.{Answered}
-use Rattle.fk_spec.specs.Scenarios.{creating, create_entries}
+use Rattle.fk_spec.specs.Scenarios.{creating, create_entries, entry}
 use Rattle.fk_refused.specs.Changing.{printing, without}
+use Rattle.fk_print.specs.declared.event.Event.TheVariants as event
 use Rattle.fk_print.specs.declared.line.Line.TheVariants as line
 use Rattle.fk_print.specs.declared.line.Shown.TheVariants as shown
 use Rattle.fk_print.specs.declared.line.Verb.TheVariants as verb
+use Rattle.fk_print.specs.declared.op.Op.TheVariants as op
 use Rattle.fk_spec.specs.OwnWatch as own
 use Rattle.fk_spec.specs.ReadHeld as held
 use Rattle.fk_spec.specs.CreateThenGet as got
@@ -37,7 +39,7 @@ OtherClientIsAnswered = Answered created_once (printing 0 (line.Reply 2 1 verb.C
 
 -- A function is in flight.
 abbrev pub FunctionInFlight : Type 0
-FunctionInFlight = Answered created_once (without 2 create_entries) → ⊥
+FunctionInFlight = Answered created_once (entry (event.Beat 1) (op.Beat 3 1) [] ∷ create_entries) → ⊥
 
 -- A push is left in the leader lane.
 abbrev pub PushIsLeft : Type 0

@@ -1,15 +1,12 @@
 -- Chains stay apart when blocks go from one to another.
-use Rattle.std.proofs.Common.{◌≡◌, ℕ, zero, suc, ◌+◌, ◌-◌, ◌==◌, ◌<◌, ◌≤◌, Bool, true, false, cond, if◌then◌else◌, ltb, Option, Some, None, refl, sym, ap, ◌∙◌, ⊎_elim, arith}
+use Rattle.std.proofs.Common.{◌≡◌, ℕ, zero, suc, ◌+◌, ◌-◌, ◌==◌, ◌<◌, ◌≤◌, cond, if◌then◌else◌, ltb, Option, Some, None, refl, sym, ap, ◌∙◌, ⊎_elim, arith}
 use Rattle.std.proofs.lemmas.Bool.{cases_lt, eqb-true, eq-eqb, ne_eqb}
 use Rattle.std.proofs.lemmas.Bool.Decides.{nat_tests}
 use Rattle.fk_region.specs.Blocks.{steps}
 use Rattle.fk_region.specs.Changes.{changed}
 use Rattle.fk_region.specs.Chains.{AreApart, size, start}
 use Rattle.fk_region.specs.Kept.{blocks_of}
-
-pub by_test : (b : Bool) (P : Bool → Type 0) → (b ≡ true → P true) → (b ≡ false → P false) → P b
-by_test true P f g = f refl
-by_test false P f g = g refl
+use Rattle.fk_base.proofs.Logic.{by_test}
 
 -- the chain of the free blocks is no other
 pub none_is_some : {b : ℕ} {P : Type 0} → (None ≡ Some b) × P → ⊥

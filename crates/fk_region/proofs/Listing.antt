@@ -5,9 +5,9 @@ use Rattle.std.proofs.lemmas.Bool.Decides.{nat_tests}
 use Rattle.fk_region.specs.declared.ticket.Ticket.{Ticket}
 use Rattle.fk_region.specs.Blocks.{kept_at, kept_from}
 use Rattle.fk_region.specs.Kept.{Kept, bytes_under, is_kept, same_ticket, with_kept, without_ticket}
-use Rattle.fk_region.proofs.Apart.{by_test}
 use Rattle.fk_region.specs.Changes.{changed}
 use Rattle.fk_region.proofs.Keeping.{same_is}
+use Rattle.fk_base.proofs.Logic.{by_test}
 
 -- SAME
 pub same_bytes : (h : ℕ → ℕ) (f g : ℕ → ℕ → List ℕ) (b n : ℕ) → ((c : ℕ) → 0 < h c → g c (h c) ≡ f c (h c)) → kept_from h g b n ≡ kept_from h f b n

@@ -9,11 +9,12 @@ use Rattle.fk_region.specs.Chains.{AreApart, AreSound, HasChain}
 use Rattle.fk_region.specs.Kept.{Kept, blocks_of, bytes_of, bytes_under, is_kept, used_by, with_kept, without_ticket}
 use Rattle.fk_region.specs.Meaning.{returned, stored}
 use Rattle.fk_region.specs.Changes.{AreKept, AreReleased, changed}
-use Rattle.fk_region.proofs.Apart.{by_test, joined, last_of, none_is_some, taken}
+use Rattle.fk_region.proofs.Apart.{joined, last_of, none_is_some, taken}
 use Rattle.fk_region.proofs.Keeping.{not_there, used_with, used_without}
 use Rattle.fk_region.proofs.Listing.{IsFound, found, fresh, one_less}
 use Rattle.fk_region.proofs.Sound.{listed, listed_less, listed_more}
 use Rattle.fk_region.proofs.Writing.{length_at, still_whole}
+use Rattle.fk_base.proofs.Logic.{by_test}
 
 -- the same in each part
 pub same_listed : (f g h k : ℕ → ℕ) (p q : ℕ → List ℕ) (m n : ℕ) → f ≡ g → h ≡ k → p ≡ q → m ≡ n → listed f h p m ≡ listed g k q n

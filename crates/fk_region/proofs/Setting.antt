@@ -5,7 +5,7 @@ use Rattle.std.proofs.lemmas.List.{get_or-set_same, get_or-set_other, length-set
 use Rattle.fk_region.specs.declared.block.Block.{Block}
 use Rattle.fk_region.specs.Blocks.{held_in, no_block}
 use Rattle.fk_region.specs.Changes.{AreKept, AreWritten, changed}
-use Rattle.fk_region.proofs.Apart.{by_test}
+use Rattle.fk_base.proofs.Logic.{by_test}
 
 -- functions that agree everywhere are equal
 pub equal : {A B : Type 0} (f g : A → B) → ((a : A) → f a ≡ g a) → f ≡ g

@@ -6,7 +6,7 @@ use Rattle.std.proofs.Math.Seq.{take-append-add}
 use Rattle.fk_region.specs.Blocks.{bytes_at, chain_bytes, steps}
 use Rattle.fk_region.specs.Kept.{blocks_of}
 use Rattle.fk_region.specs.Changes.{over, written}
-use Rattle.fk_region.proofs.Apart.{by_test}
+use Rattle.fk_base.proofs.Logic.{by_test}
 
 -- CHAINS
 -- chains with the same bytes on their way have the same bytes

@@ -2,13 +2,13 @@
 use Rattle.std.proofs.Common.{◌≡◌, ℕ, ◌<◌, Bool, true, false, List, [], ◌∷◌, ◌++◌, refl, arith}
 use Rattle.std.specs.Prelude.{◌==◌, ◌&&◌, not}
 use Rattle.std.specs.List.{list_all}
-use Rattle.std.specs.Str.{IsUtf8, IsAscii}
+use Rattle.std.specs.Str.{IsUtf8}
 use Rattle.std.proofs.lemmas.Bool.{and_parts, and_from}
 use Rattle.std.proofs.lemmas.Bool.Decides.{nat_tests}
 use Rattle.std.proofs.lemmas.Str.{IsUtf8-from_ascii}
-use Rattle.std.proofs.lemmas.Str.Ascii.{IsAscii-nil, IsAscii-cons}
 use Rattle.fk_print.specs.Words.{is_plain}
 use Rattle.fk_script.specs.Lines.{Word, is_empty}
+use Rattle.fk_print.proofs.Texts.{IsAscii-plain}
 
 -- neither a space nor a line feed
 abbrev pub is_inner : ℕ → Bool
@@ -37,14 +37,8 @@ plain_are_inner (b ∷ bytes) h =
     let both = and_parts (is_plain b) (list_all is_plain bytes) h in
     and_from (is_inner b) (list_all is_inner bytes) (plain_inner b both.0).0 (plain_are_inner bytes both.1)
 
-pub plain_are_ascii : (bytes : List ℕ) → list_all is_plain bytes ≡ true → IsAscii bytes
-plain_are_ascii [] h = IsAscii-nil
-plain_are_ascii (b ∷ bytes) h =
-    let both = and_parts (is_plain b) (list_all is_plain bytes) h in
-    IsAscii-cons b bytes (plain_inner b both.0).1 (plain_are_ascii bytes both.1)
-
 pub plain_word : (bytes : List ℕ) → is_empty bytes ≡ false → list_all is_plain bytes ≡ true → IsWord bytes
-plain_word bytes full h = record { full = full; inner = plain_are_inner bytes h; text = IsUtf8-from_ascii bytes (plain_are_ascii bytes h) }
+plain_word bytes full h = record { full = full; inner = plain_are_inner bytes h; text = IsUtf8-from_ascii bytes (IsAscii-plain bytes h) }
 
 -- bytes of which each is plain where each passes another test
 pub passing_are_plain : (p : ℕ → Bool) (over : (b : ℕ) → p b ≡ true → is_plain b ≡ true) (bytes : List ℕ) → list_all p bytes ≡ true → list_all is_plain bytes ≡ true

@@ -1,13 +1,13 @@
 -- Where the bytes of a file are cut into lines.
-use Rattle.std.proofs.Common.{◌≡◌, ℕ, suc, ◌+◌, ◌-◌, ◌<◌, length, length-drop, take, drop, Bool, true, false, cond, List, [], ◌∷◌, Some, None, refl, sym, ◌∙◌, ap, add-one, arith}
+use Rattle.std.proofs.Common.{◌≡◌, ℕ, suc, ◌+◌, ◌-◌, ◌<◌, length, take, drop, Bool, true, false, cond, List, [], ◌∷◌, Some, None, refl, ap, add-one, arith}
 use Rattle.std.specs.Prelude.{nat_lt, not, position}
 use Rattle.std.specs.List.{position_or_len}
 use Rattle.std.proofs.lemmas.Bool.Decides.{nat_tests}
-use Rattle.std.proofs.Math.Seq.{take-length}
 use Rattle.std.specs.Str.{IsUtf8, is_utf8}
 use Rattle.std.proofs.lemmas.Str.{IsUtf8-from_is_utf8}
 use Rattle.std.proofs.lemmas.List.Sums.{prefix_len-le-length}
 use Rattle.fk_script.specs.Lines.{Line, is_line_feed, onto_line, lines}
+use Rattle.fk_base.proofs.Joins.{take_rest}
 
 -- how many bytes stand before the first line feed
 abbrev pub front : List ℕ → ℕ
@@ -57,13 +57,10 @@ cut_nowhere bs e l = step (nat_lt (front bs) (length bs)) refl e
     step true f g = cc g
     step false f g = no_front bs (grind (arith, nat_tests, prefix_len-le-length (λ b. not (is_line_feed b)) bs)) l
 
-rest_is : (bs : List ℕ) (n : ℕ) → take (length bs - n) (drop n bs) ≡ drop n bs
-rest_is bs n = ap (λ k. take k (drop n bs)) (sym (length-drop n bs)) ∙ take-length (drop n bs)
-
 -- the same, with the rest as a range
 pub cut_range : (bs : List ℕ) (at : ℕ) → Some at ≡ position is_line_feed bs
     → lines bs ≡ record { text = take at bs; ended = true } ∷ lines (take (length bs - (at + 1)) (drop (at + 1) bs))
-cut_range bs at e = rw (rest_is bs (at + 1)) (cut_at bs at e)
+cut_range bs at e = rw (take_rest bs (at + 1)) (cut_at bs at e)
 
 pub is_not_utf8 : (bs : List ℕ) → ¬ (IsUtf8 bs) → is_utf8 bs ≡ false
 is_not_utf8 bs h = step (is_utf8 bs) (λ (e : is_utf8 bs ≡ true). h (IsUtf8-from_is_utf8 bs e))

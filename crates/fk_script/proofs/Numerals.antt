@@ -10,14 +10,11 @@ use Rattle.std.specs.Option.{option_map}
 use Rattle.std.proofs.lemmas.Bool.{and_parts, and_from, cases_lt, le-leb}
 use Rattle.std.proofs.lemmas.Bool.Decides.{nat_tests}
 use Rattle.std.proofs.lemmas.Fmt.{digits_decimal, digits_value-decimal, decimal_digit, decimal_nonempty, first_decimal}
-use Rattle.std.proofs.lemmas.Str.Parse.{IsNumeralModel, numerals_by_value, tells_all_ascii_digits}
 use Rattle.fk_print.specs.Words.{is_plain}
 use Rattle.fk_script.specs.Lines.{Word, is, is_empty}
 use Rattle.fk_script.specs.Values.{is_decimal, number, version, most_version}
 use Rattle.fk_script.proofs.CleanWords.{IsWord, plain_word}
-
-own : IsNumeralModel (λ ds. all_ascii_digits ds ≡ true) (digits_value 10)
-own = numerals_by_value (λ ds. all_ascii_digits ds ≡ true) tells_all_ascii_digits
+use Rattle.fk_base.proofs.Numerals.{numerals}
 
 digit_plain : (b : ℕ) → is_ascii_digit b ≡ true → is_plain b ≡ true
 digit_plain b h = grind (arith, nat_tests)
@@ -29,7 +26,7 @@ digits_plain (d ∷ ds) h =
     and_from (is_plain d) (list_all is_plain ds) (digit_plain d both.0) (digits_plain ds both.1)
 
 pub number_plain : (n : ℕ) → n < 2 ^ 64 → list_all is_plain (decimal n) ≡ true
-number_plain n h = digits_plain (decimal n) (digits_decimal own n h)
+number_plain n h = digits_plain (decimal n) (digits_decimal numerals n h)
 
 full_test : (w : List ℕ) → 0 < length w → is_empty w ≡ false
 full_test w h = grind (arith, nat_tests)
@@ -51,14 +48,14 @@ leading n h e = elim (cases_lt n 10) [
 ]
 
 decimal_is : (n : ℕ) → n < 2 ^ 64 → is_decimal (decimal n) ≡ true
-decimal_is n h = decimal_test (decimal n) (digits_decimal own n h) (decimal_nonempty n h) (leading n h)
+decimal_is n h = decimal_test (decimal n) (digits_decimal numerals n h) (decimal_nonempty n h) (leading n h)
 
 number_at : (most n : ℕ) (w : Word) → is_decimal w ≡ true → digits_value 10 w ≡ n → n ≤ most → number most w ≡ Some n
 number_at most n w d v l = rw (d, v, le-leb n most l) refl
 
 -- a number of at most 64 bits
 pub number_back : (most n : ℕ) → n < 2 ^ 64 → n ≤ most → number most (decimal n) ≡ Some n
-number_back most n h l = number_at most n (decimal n) (decimal_is n h) (digits_value-decimal own n h) l
+number_back most n h l = number_at most n (decimal n) (decimal_is n h) (digits_value-decimal numerals n h) l
 
 no_sign : (ds : List ℕ) → all_ascii_digits ds ≡ true → is ds (codes "-1") ≡ false
 no_sign [] h = refl
@@ -75,10 +72,10 @@ digits_apart (d ∷ ds) h = apart_test d (is ds []) (and_parts (is_ascii_digit d
     apart_test d r h = grind (arith, nat_tests)
 
 pub number_apart : (n : ℕ) → n < 2 ^ 64 → is (decimal n) (codes ";") ≡ false
-number_apart n h = digits_apart (decimal n) (digits_decimal own n h)
+number_apart n h = digits_apart (decimal n) (digits_decimal numerals n h)
 
 pub version_back : (n : ℕ) → n ≤ most_version → version (decimal n) ≡ Some (pos n)
 version_back n l =
     let small : n < 2 ^ 64 = omega arith in
-    ap (λ b. cond b (Some (negsuc 0)) (option_map pos (number most_version (decimal n)))) (no_sign (decimal n) (digits_decimal own n small))
+    ap (λ b. cond b (Some (negsuc 0)) (option_map pos (number most_version (decimal n)))) (no_sign (decimal n) (digits_decimal numerals n small))
     ∙ ap (option_map pos) (number_back most_version n small l)

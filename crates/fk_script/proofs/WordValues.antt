@@ -13,7 +13,8 @@ use Rattle.base64.specs.Engines.{standard}
 use Rattle.base64.specs.GeneralPurpose.{IsBytes, decode_of, encode_of}
 use Rattle.base64.proofs.EngineFacts.{decode_of_iff}
 use Rattle.fk_script.specs.Values.{decoded, is_decimal, number}
-use Rattle.fk_script.proofs.NumberWords.{numerals, digits_of_decimal}
+use Rattle.fk_script.proofs.NumberWords.{digits_of_decimal}
+use Rattle.fk_base.proofs.Numerals.{numerals}
 
 -- a zero in front stands alone
 lone_zero : (word : List ℕ) → is_decimal word ≡ true → get_or word 0 0 ≡ 48 → length word ≡ 1

@@ -14,7 +14,7 @@ use Rattle.fk_print.specs.declared.op.Op.{Op}
 use Rattle.fk_print.specs.declared.op.Op.TheVariants as op
 use Rattle.fk_spec.specs.Plan.{Plan, item_after}
 use Rattle.fk_spec.specs.Start.{pushes_of, request_of, seen_with}
-use Rattle.fk_spec.specs.Settling.{Outcome, Committed, settled_of, outcome_of, last_of_session}
+use Rattle.fk_spec.specs.Settling.{Outcome, Committed, settled_of, outcome_of, last_of_session, is_next_to_settle}
 use Rattle.fk_spec.specs.Locks.{Grant, last_grant, may_grant, granted, first_passed}
 use Rattle.fk_spec.specs.Locks as locks
 use Rattle.fk_spec.specs.Stored.{committed_of, stored_view, last_edit, owned_after}
@@ -135,7 +135,7 @@ unsettled_op n closed = if closed then op.SessionClosed n else op.SessionNew n
 -- the session's next request, its last one, or one that is past
 abbrev pub session_op : Plan → List Entry → ℕ → ℕ → ℕ → Op
 session_op p h n c k =
-    if settled_of c h + 1 == k then unsettled_op n ((stored_view p h).closed c) else if settled_of c h == k then settled_op n (outcome_of c k h) else op.SessionPast n
+    if is_next_to_settle c k h then unsettled_op n ((stored_view p h).closed c) else if settled_of c h == k then settled_op n (outcome_of c k h) else op.SessionPast n
 
 abbrev pub busy_op : ℕ → PathNames → Option Grant → Op
 busy_op n path None = op.LockOk n path
@@ -152,7 +152,7 @@ commit_locked n tx (Some x) = op.CommitLock n tx x.path x.holder x.moment
 -- path that it was granted.
 abbrev pub commit_op : List Entry → ℕ → ℕ → ℕ → ℕ → ℕ → Op
 commit_op h n tx holder c k =
-    if settled_of c h + 1 == k then commit_locked n tx (first_passed holder h (in_path_order (granted holder h))) else op.CommitSettled n tx (settled_of c h)
+    if is_next_to_settle c k h then commit_locked n tx (first_passed holder h (in_path_order (granted holder h))) else op.CommitSettled n tx (settled_of c h)
 
 abbrev pub refuse_locked : ℕ → Refusal → ℕ → Option locks.Passed → Op
 refuse_locked n r at None = op.RefuseOk n r.code r.place at
@@ -161,14 +161,14 @@ refuse_locked n r at (Some x) = op.RefuseLock n r.code r.place at x.path x.holde
 -- a refusal is settled under the same conditions
 abbrev pub refuse_op : List Entry → ℕ → Refusal → ℕ → ℕ → ℕ → Op
 refuse_op h n r at c k =
-    if settled_of c h + 1 == k then refuse_locked n r at (first_passed n h (in_path_order (granted n h))) else op.RefuseSettled n r.code r.place at (settled_of c h)
+    if is_next_to_settle c k h then refuse_locked n r at (first_passed n h (in_path_order (granted n h))) else op.RefuseSettled n r.code r.place at (settled_of c h)
 
 -- a request of a closed session is refused under the first of them alone
 abbrev pub expire_op : List Entry → ℕ → ℕ → ℕ → ℕ → Op
-expire_op h n at c k = if settled_of c h + 1 == k then op.RefuseOk n code.SessionExpired 0 at else op.RefuseSettled n code.SessionExpired 0 at (settled_of c h)
+expire_op h n at c k = if is_next_to_settle c k h then op.RefuseOk n code.SessionExpired 0 at else op.RefuseSettled n code.SessionExpired 0 at (settled_of c h)
 
 abbrev pub lost_op : List Entry → ℕ → ℕ → ℕ → Op
-lost_op h n c k = if settled_of c h + 1 == k then op.LostOk n else op.LostSettled n (settled_of c h)
+lost_op h n c k = if is_next_to_settle c k h then op.LostOk n else op.LostSettled n (settled_of c h)
 
 abbrev pub is_number : ℕ → Option ℕ → Bool
 is_number n None = false

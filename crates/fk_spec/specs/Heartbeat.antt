@@ -1,5 +1,6 @@
 -- The heartbeat: it pings a session, or evicts one that didn't answer in time.
 use Rattle.std.specs.Prelude.{ℕ, ◌+◌, nat_le, nat_lt, if◌then◌else◌, List}
+use Rattle.fk_base.specs.Times.{has_passed}
 use Rattle.fk_print.specs.declared.entry.Entry.{Entry}
 use Rattle.fk_print.specs.declared.op.Op.{Op}
 use Rattle.fk_print.specs.declared.op.Op.TheVariants as op
@@ -26,7 +27,7 @@ next_beat _ = Ended
 -- A ping that isn't answered is waited for, and is late once the clock exceeds its moment by more than
 -- the deployment's beat.
 abbrev pub unanswered_op : ℕ → ℕ → ℕ → Noted → Op
-unanswered_op n beat clock x = if nat_lt (x.moment + beat) clock then op.ProbeLate n x.ping x.moment else op.ProbeWaiting n
+unanswered_op n beat clock x = if has_passed beat x.moment clock then op.ProbeLate n x.ping x.moment else op.ProbeWaiting n
 
 abbrev pub open_op : ℕ → ℕ → ℕ → ℕ → Noted → Op
 open_op n beat clock pong x = if nat_le x.ping pong then op.ProbeFresh n else unanswered_op n beat clock x

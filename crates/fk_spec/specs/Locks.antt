@@ -1,5 +1,6 @@
 -- The timed lock of each path.
-use Rattle.std.specs.Prelude.{ℕ, ◌+◌, ◌==◌, nat_lt, Bool, true, false, if◌then◌else◌, ◌&&◌, ◌||◌, not, List, [], ◌∷◌, ◌++◌, Option, Some, None}
+use Rattle.std.specs.Prelude.{ℕ, ◌+◌, ◌==◌, Bool, true, false, if◌then◌else◌, ◌&&◌, ◌||◌, not, List, [], ◌∷◌, ◌++◌, Option, Some, None}
+use Rattle.fk_base.specs.Times.{has_passed}
 use Rattle.fk_base.specs.Path.{PathNames, same_path}
 use Rattle.fk_print.specs.declared.entry.Entry.{Entry}
 use Rattle.fk_print.specs.declared.op.Op.{Op}
@@ -38,7 +39,7 @@ has_released n (e ∷ h) = releases n h e.op || has_released n h
 -- than the deployment's lock time.
 abbrev pub may_grant : ℕ → List Entry → Option Grant → Bool
 may_grant lock h None = true
-may_grant lock h (Some g) = has_released g.holder h || nat_lt (g.moment + lock) (clock_of h)
+may_grant lock h (Some g) = has_released g.holder h || has_passed lock g.moment (clock_of h)
 
 -- whether the lock is held by function n
 abbrev pub is_held_by : ℕ → List Entry → Option Grant → Bool

@@ -1,5 +1,6 @@
 -- Every refusal shows its cause.
-use Rattle.std.specs.Prelude.{◌≡◌, ℕ, ◌+◌, ◌==◌, nat_le, nat_lt, Bool, true, false, if◌then◌else◌, ◌&&◌, ◌||◌, List, [], ◌∷◌, Option, Some, None}
+use Rattle.std.specs.Prelude.{◌≡◌, ℕ, ◌==◌, nat_le, Bool, true, false, if◌then◌else◌, ◌&&◌, ◌||◌, List, [], ◌∷◌, Option, Some, None}
+use Rattle.fk_base.specs.Times.{has_passed}
 use Rattle.fk_base.specs.Path.{PathNames, same_path}
 use Rattle.fk_base.specs.declared.code.Code.{Code}
 use Rattle.fk_base.specs.declared.code.Code.TheVariants as code
@@ -99,7 +100,7 @@ pub record LockIsLost (p : Plan) (h : List Entry) (c i : ℕ) (path : PathNames)
   pub function : ℕ
   pub follows : is_follower c (sent_as c i h) (task_of function h) ≡ true
   pub passed : granted_later function path own found moment h ≡ true
-  pub beyond : nat_lt (own + p.lock) moment ≡ true
+  pub beyond : has_passed p.lock own moment ≡ true
   pub missed : has_missed function path found moment h ≡ true
   pub settled : has_lost function h ≡ true
 

@@ -47,6 +47,10 @@ abbrev pub settled_of : ℕ → List Entry → ℕ
 settled_of c [] = 0
 settled_of c (e ∷ h) = count_settling c (settled_in h e.op) (settled_of c h)
 
+-- whether request k of session c is the next to settle
+abbrev pub is_next_to_settle : ℕ → ℕ → List Entry → Bool
+is_next_to_settle c k h = settled_of c h + 1 == k
+
 abbrev pub outcome_here : ℕ → ℕ → ℕ → Option Settling → Option Outcome → Option Outcome
 outcome_here c k n None o = o
 outcome_here c k n (Some s) o = if (s.session == c) && (n + 1 == k) then Some s.outcome else o

@@ -70,10 +70,6 @@ abbrev pub is_session : ℕ → Option ℕ → Bool
 is_session c None = false
 is_session c (Some s) = s == c
 
--- whether function n is a follower of session c
-abbrev pub is_follower_of : ℕ → ℕ → List Entry → Bool
-is_follower_of c n h = is_session c (session_followed (task_of n h))
-
 -- a push: its number, its function and its moment
 pub record Push : Type 0 where
   pub tx : ℕ

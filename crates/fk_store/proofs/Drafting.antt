@@ -1,14 +1,15 @@
 -- What writes make of a draft of rows.
-use Rattle.std.proofs.Common.{◌≡◌, ℕ, suc, ◌+◌, ◌<◌, Bool, true, false, cond, List, [], ◌∷◌, ◌++◌, Option, Some, None, length, drop, get_or, set, refl, sym, ◌∙◌, ap, subst, arith, drop-cons}
+use Rattle.std.proofs.Common.{Bool, List, None, Option, Some, [], ap, append-nil, arith, cond, drop, drop-cons, false, get_or, length, refl, set, subst, suc, sym, true, ℕ, ◌++◌, ◌+◌, ◌<◌, ◌∙◌, ◌∷◌, ◌≡◌}
 use Rattle.fk_base.specs.Path.{PathNames, same_path}
-use Rattle.fk_tree.proofs.Order.{by_test, same_path_is, same_path_self}
+use Rattle.fk_tree.proofs.Order.{same_path_is, same_path_self}
 use Rattle.fk_store.specs.declared.node_record.NodeRecord.{NodeRecord}
 use Rattle.fk_store.specs.declared.rows.Row.{Row}
 use Rattle.fk_store.specs.declared.write.Write.{Write}
 use Rattle.fk_store.specs.declared.write.Write.TheVariants as write
 use Rattle.fk_store.specs.Rows.{row_record, row_from}
 use Rattle.fk_store.specs.Writes.{grant_record, is_of_path, record_by, record_after, records_written}
-use Rattle.fk_store.proofs.Keeping.{over_none, put_over, placed_later}
+use Rattle.fk_store.proofs.Keeping.{put_over, placed_later}
+use Rattle.fk_base.proofs.Logic.{by_test}
 
 -- STAGING
 -- a new row of a path that had none stands at the end
@@ -59,9 +60,9 @@ drafted p q w ds rs k d o f e h =
 pub granted : (p q : PathNames) (inv moment : ℕ) (rs : List Row) (k : ℕ) (d : Row) (o : Option NodeRecord) → row_from 0 q rs ≡ Some k → o ≡ grant_record inv moment (get_or rs k d).kept
     → row_record p (set rs k (record { path = (get_or rs k d).path; kept = o })) ≡ cond (same_path p q) (grant_record inv moment (row_record p rs)) (row_record p rs)
 granted p q inv moment rs k d o e h =
-    ap (row_record p) (sym (over_none (set rs k (record { path = (get_or rs k d).path; kept = o }))))
+    ap (row_record p) (sym (append-nil (set rs k (record { path = (get_or rs k d).path; kept = o }))))
     ∙ drafted p q (write.Grant q inv moment) rs [] k d o (λ _. refl) e h
-    ∙ ap (λ xs. cond (same_path p q) (grant_record inv moment (row_record p xs)) (row_record p xs)) (over_none rs)
+    ∙ ap (λ xs. cond (same_path p q) (grant_record inv moment (row_record p xs)) (row_record p xs)) (append-nil rs)
 
 pub records_step : (p : PathNames) (ws : List Write) (i : ℕ) (w : Write) (o : Option NodeRecord) → i < length ws → w ≡ get_or ws i w → records_written p (drop i ws) o ≡ records_written p (drop (i + 1) ws) (record_after w p o)
 records_step p ws i w o l s = step (i + 1) (omega arith)

@@ -6,12 +6,13 @@ use Rattle.std.specs.Ordering.{is_eq, is_gt, match_ordering}
 use Rattle.std.proofs.lemmas.Bool.{false≢true}
 use Rattle.fk_base.specs.Path.{PathNames, path_cmp, same_path}
 use Rattle.fk_tree.specs.Sorted.{has_path, rises, with_key}
-use Rattle.fk_tree.proofs.Order.{by_test, path_exact, path_total, same_path_is}
+use Rattle.fk_tree.proofs.Order.{path_exact, path_total, same_path_is}
 use Rattle.fk_tree.proofs.Rising.{has_with, rises_with}
 use Rattle.fk_store.specs.declared.rows.Row.{Row}
 use Rattle.fk_store.specs.Answers.{has_owner}
 use Rattle.fk_store.specs.Owning.{gathered, is_gathered, owns_row, path_from}
 use Rattle.fk_store.specs.Rows.{row_record}
+use Rattle.fk_base.proofs.Logic.{by_test}
 
 -- PLACES
 place_later : (p : PathNames) (qs : List PathNames) (i : ℕ) → path_from (suc i) p qs ≡ suc (path_from i p qs)

@@ -1,5 +1,5 @@
 -- Rows: what is found, added and put there.
-use Rattle.std.proofs.Common.{◌≡◌, ℕ, suc, ◌+◌, ◌<◌, Bool, true, false, cond, ◌||◌, List, [], ◌∷◌, ◌++◌, Option, Some, None, length, take, get_or, set, refl, sym, ◌∙◌, ap, subst, arith}
+use Rattle.std.proofs.Common.{Bool, List, None, Option, Some, [], ap, append-nil, arith, cond, false, get_or, length, refl, set, subst, suc, sym, take, true, ℕ, ◌++◌, ◌+◌, ◌<◌, ◌||◌, ◌∙◌, ◌∷◌, ◌≡◌}
 use Rattle.std.specs.Prelude.{is_some}
 use Rattle.std.proofs.lemmas.Bool.{false≢true}
 use Rattle.std.proofs.lemmas.List.{take_more}
@@ -120,12 +120,8 @@ put_over p (s ∷ rs) base r k e = step (same_path r.path s.path) refl e (put_ov
     step true b e f = let first : k ≡ 0 = cc in rw first (here (same_path_is r.path s.path b))
     step false b e f = let later : (j : ℕ) × (k ≡ suc j) × (row_from 0 r.path rs ≡ Some j) = placed_later r.path rs 0 k e in behind later.0 b later.1 (f later.0 later.2)
 
-pub over_none : (rs : List Row) → rs ++ [] ≡ rs
-over_none [] = refl
-over_none (r ∷ rs) = ap (λ xs. r ∷ xs) (over_none rs)
-
 pub put_record : (p : PathNames) (rs : List Row) (r : Row) (k : ℕ) → row_from 0 r.path rs ≡ Some k → row_record p (set rs k r) ≡ cond (same_path p r.path) r.kept (row_record p rs)
-put_record p rs r k e = ap (row_record p) (sym (over_none (set rs k r))) ∙ put_over p rs [] r k e ∙ ap (λ xs. cond (same_path p r.path) r.kept (row_record p xs)) (over_none rs)
+put_record p rs r k e = ap (row_record p) (sym (append-nil (set rs k r))) ∙ put_over p rs [] r k e ∙ ap (λ xs. cond (same_path p r.path) r.kept (row_record p xs)) (append-nil rs)
 
 pub put_has : (p : PathNames) (rs : List Row) (r : Row) (k : ℕ) → row_from 0 r.path rs ≡ Some k → has_row p (set rs k r) ≡ has_row p rs
 put_has p [] r k e = absurd (cc)

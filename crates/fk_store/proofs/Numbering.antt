@@ -5,12 +5,12 @@ use Rattle.std.proofs.Math.Seq.{take-length}
 use Rattle.std.proofs.lemmas.Bool.{eqb-true}
 use Rattle.std.proofs.lemmas.Bool.Decides.{nat_tests}
 use Rattle.fk_tree.specs.Tree.{map_some}
-use Rattle.fk_tree.proofs.Order.{by_test}
 use Rattle.fk_store.specs.declared.session_record.SessionRecord.{SessionRecord}
 use Rattle.fk_store.specs.declared.write.Write.{Write}
 use Rattle.fk_store.specs.Meaning.{new_session}
 use Rattle.fk_store.specs.Numbered.{session_at, new_sessions, session_from, sessions_written}
 use Rattle.fk_store.specs.Writes.{done_after, done_written, session_after, session_written, without}
+use Rattle.fk_base.proofs.Logic.{by_test}
 
 -- PENDING NUMBERS
 without_more : (n m : ℕ) (ms : List ℕ) → without n (ms ++ m ∷ []) ≡ cond (m == n) (without n ms) (without n ms ++ m ∷ [])

@@ -1,5 +1,6 @@
 -- The timed lock of a path.
-use Rattle.std.specs.Prelude.{ℕ, ◌+◌, ◌==◌, nat_lt, Bool, true, false, ◌&&◌, ◌||◌, not}
+use Rattle.std.specs.Prelude.{ℕ, ◌==◌, Bool, true, false, ◌&&◌, ◌||◌, not}
+use Rattle.fk_base.specs.Times.{has_passed}
 use Rattle.fk_store.specs.declared.lock.Lock.{Lock}
 
 -- the lock of a path that was never locked
@@ -9,7 +10,7 @@ no_lock = record { inv = 0; moment = 0; held = false }
 -- A lock may be granted exactly where none is held, or where now exceeds the held lock's moment by more
 -- than the lock time.
 abbrev pub is_free : ℕ → ℕ → Lock → Bool
-is_free now time l = not l.held || nat_lt (l.moment + time) now
+is_free now time l = not l.held || has_passed time l.moment now
 
 -- whether the lock is held by this invocation
 abbrev pub is_held_by : ℕ → Lock → Bool

@@ -2,7 +2,7 @@ ghost use Rattle.std.specs.Prelude.{◌≡◌, IfOk};
 
 use crate::lock::Lock;
 use fk_base::NoMemory;
-use fk_tree::Node;
+use fk_tree::{Node, copy_node};
 
 /// What a table keeps of a path.
 #[derive(Drop)]
@@ -18,18 +18,9 @@ impl NodeRecord {
         ensures { IfOk result (λ r. r ≡ self.now) }
     {
         Ok(NodeRecord {
-            node: copy_of(&self.node)?,
+            node: copy_node(&self.node)?,
             lock: self.lock,
             last: self.last,
         })
-    }
-}
-
-fn copy_of(node: &Option<Node>) -> Result<Option<Node>, NoMemory>
-    ensures { IfOk result (λ n. n ≡ node.now) }
-{
-    match node {
-        None => Ok(None),
-        Some(node) => Ok(Some(node.copy()?)),
     }
 }

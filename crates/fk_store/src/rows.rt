@@ -7,7 +7,7 @@ ghost use Rattle.fk_store.specs.Rows.{has_row, row_from, row_record, rows_have_r
 
 use crate::lock::UNLOCKED;
 use crate::node_record::NodeRecord;
-use fk_base::{Bytes, Names, NoMemory, Path};
+use fk_base::{NoMemory, Path};
 use fk_tree::Node;
 use std::alloc::Global;
 
@@ -23,23 +23,10 @@ pub fn root_row(alloc: Global) -> Row
     ensures path { result.path ≡ [] }
     ensures kept { result.kept ≡ Some root_record }
 {
-    let node = Node {
-        bytes: Bytes::new(alloc),
-        czxid: 0,
-        mzxid: 0,
-        pzxid: 0,
-        ctime: 0,
-        mtime: 0,
-        version: 0,
-        cversion: 0,
-        made: 0,
-        owner: 0,
-        names: Names::new(alloc),
-    };
     Row {
         path: Path::root(alloc),
         kept: Some(NodeRecord {
-            node: Some(node),
+            node: Some(Node::root(alloc)),
             lock: UNLOCKED,
             last: 0,
         }),

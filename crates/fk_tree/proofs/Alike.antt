@@ -23,7 +23,7 @@ plain n = record n { czxid = 0; mzxid = 0; pzxid = 0; ctime = 0; mtime = 0 }
 abbrev pub AreAlike : Option Node → Option Node → Type 0
 AreAlike o x = map_some plain o ≡ map_some plain x
 
-plain_edit : (tx moment : ℕ) (w : What) (o : Option Node) → map_some plain (edit tx moment w o) ≡ edit 0 0 w (map_some plain o)
+pub plain_edit : (tx moment : ℕ) (w : What) (o : Option Node) → map_some plain (edit tx moment w o) ≡ edit 0 0 w (map_some plain o)
 plain_edit tx moment (what.Make bytes owner) o = refl
 plain_edit tx moment (what.Replace bytes) None = refl
 plain_edit tx moment (what.Replace bytes) (Some n) = refl
@@ -41,7 +41,7 @@ plain_edit tx moment (what.DropName x) (Some n) = ap Some (step (has_name x n.na
     step true = refl
     step false = refl
 
-plain_edited : (tx moment : ℕ) (p : PathNames) (es : List Edit) (o : Option Node) → map_some plain (edited tx moment p es o) ≡ edited 0 0 p es (map_some plain o)
+pub plain_edited : (tx moment : ℕ) (p : PathNames) (es : List Edit) (o : Option Node) → map_some plain (edited tx moment p es o) ≡ edited 0 0 p es (map_some plain o)
 plain_edited tx moment p [] o = refl
 plain_edited tx moment p (e ∷ es) o = plain_edited tx moment p es (cond (same_path p e.path) (edit tx moment e.what o) o) ∙ ap (edited 0 0 p es) (step (same_path p e.path))
   where

@@ -1,5 +1,5 @@
 -- A create in rows: the new node, its name in the parent, and what is undone where the name finds no memory.
-use Rattle.std.proofs.Common.{◌≡◌, ℕ, Bool, true, false, cond, List, [], ◌∷◌, Option, Some, None, refl, sym, ◌∙◌}
+use Rattle.std.proofs.Common.{◌≡◌, ℕ, Bool, true, false, cond, List, [], ◌∷◌, Some, None, refl, sym, ◌∙◌}
 use Rattle.std.proofs.lemmas.Bool.{false≢true}
 use Rattle.fk_base.specs.Path.{PathNames, name_cmp, same_path, parent, last_name, is_root}
 use Rattle.fk_tree.specs.declared.node.Node.{Node}
@@ -7,7 +7,8 @@ use Rattle.fk_tree.specs.Sorted.{rises}
 use Rattle.fk_tree.specs.Tree.{map_some, with_names, fresh}
 use Rattle.fk_tree.specs.Edit.{create_edits, edited, with_child}
 use Rattle.fk_tree.specs.Rows.{Row, row_node, names_of, AreRising}
-use Rattle.fk_tree.proofs.Order.{by_test, same_path_is}
+use Rattle.fk_tree.proofs.Order.{same_path_is}
+use Rattle.fk_base.proofs.Logic.{by_test}
 
 -- one path has this node, and the others keep theirs
 abbrev pub IsPut : PathNames → Node → List Row → List Row → Type 0

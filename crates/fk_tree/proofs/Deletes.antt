@@ -9,9 +9,10 @@ use Rattle.fk_tree.specs.Sorted.{has_name, drop_name, rises}
 use Rattle.fk_tree.specs.Tree.{Bare, Nodes, children, with_names, map_some, node_view}
 use Rattle.fk_tree.specs.Edit.{edit, edited, delete_edits}
 use Rattle.fk_tree.specs.Apply.{shrunk, at_path, delete_node}
-use Rattle.fk_tree.proofs.Order.{by_test, name_total, name_exact, path_total, same_path_is, same_child, child_apart, child_not_root, child_parts}
+use Rattle.fk_tree.proofs.Order.{name_total, name_exact, path_total, same_path_is, same_child, child_apart, child_not_root, child_parts}
 use Rattle.fk_tree.proofs.Rising.{has_without, rises_without}
 use Rattle.fk_tree.proofs.Views.{has_children, rising_children, children_of, children_like, get_at_path, some_at_path}
+use Rattle.fk_base.proofs.Logic.{by_test}
 
 some_unless : {A : Type 0} (c : Bool) (o : Option A) → is_some (cond c None o) ≡ cond c false (is_some o)
 some_unless true o = refl

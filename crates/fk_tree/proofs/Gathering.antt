@@ -10,7 +10,8 @@ use Rattle.fk_tree.specs.declared.change.Touch.{Touch}
 use Rattle.fk_tree.specs.declared.request.Part.{Part}
 use Rattle.fk_tree.specs.Touch.{same_change, same_touch, others, once, with_parent_touched, deletes_touches, part_touches, parts_touches}
 use Rattle.fk_tree.specs.Touching.{is_there, put_one, all_put}
-use Rattle.fk_tree.proofs.Order.{by_test, and_left, and_right, same_path_is, same_path_self}
+use Rattle.fk_tree.proofs.Order.{same_path_is, same_path_self}
+use Rattle.fk_base.proofs.Logic.{and_left, and_right, by_test}
 
 same_change_is : (a b : Change) → same_change a b ≡ true → a ≡ b
 same_change_is change.Created change.Created e = refl

@@ -13,7 +13,7 @@ use Rattle.fk_tree.specs.Touch.{same_change, same_touch}
 use Rattle.fk_tree.specs.Touching.{is_indexed, is_there, put_one, set_of, IsNoted}
 use Rattle.fk_tree.proofs.Gathering.{same_touch_is}
 use Rattle.fk_tree.proofs.Looking.{same_flip}
-use Rattle.fk_tree.proofs.Order.{by_test}
+use Rattle.fk_base.proofs.Logic.{by_test}
 
 or_false : (a : Bool) → (a || false) ≡ a
 or_false true = refl

@@ -4,21 +4,22 @@ use Rattle.std.specs.Prelude.{Result, Ok, Err, OnOk, OnErr}
 use Rattle.std.proofs.lemmas.Bool.Decides.{nat_tests}
 use Rattle.std.proofs.lemmas.Bool.{false≢true}
 use Rattle.std.proofs.lemmas.List.{take_more}
-use Rattle.fk_base.specs.Path.{Name, PathNames, name_cmp, same_path, parent, last_name, is_root}
+use Rattle.fk_base.specs.Path.{Name, PathNames, name_cmp, same_path}
 use Rattle.fk_tree.specs.declared.node.Node.{Node}
 use Rattle.fk_tree.specs.declared.edit.Edit.{Edit}
 use Rattle.fk_tree.specs.declared.edit.What.{What}
 use Rattle.fk_tree.specs.declared.edit.What.TheVariants as what
 use Rattle.fk_tree.specs.declared.slots.Changed.{Changed}
 use Rattle.fk_tree.specs.Sorted.{has_name, add_name, drop_name, rises}
-use Rattle.fk_tree.specs.Tree.{map_some, with_names, fresh, up}
+use Rattle.fk_tree.specs.Tree.{map_some, up}
 use Rattle.fk_tree.specs.Edit.{edit, edited, effects, create_edits, owner_for, delete_edits, deletes_edits, with_bytes, with_child, without_child}
 use Rattle.fk_tree.specs.declared.applied.Applied.{Applied}
 use Rattle.fk_tree.specs.declared.request.Request.TheVariants as request
 use Rattle.fk_tree.specs.Rows.{Row, row_node, has_row, have_rows, changed_by, changes_by, changes_have_rows, written, names_of, is_of, is_noted, is_drop, are_drops, is_edit_noted, are_noted, AreEdited, AreNoted, AreRising, KeepSame, KeepsNotes}
 use Rattle.fk_tree.proofs.Notes.{Sets}
-use Rattle.fk_tree.proofs.Order.{by_test, same_path_is, name_total, name_exact, child_apart, child_parts}
+use Rattle.fk_tree.proofs.Order.{same_path_is, name_total, name_exact}
 use Rattle.fk_tree.proofs.Rising.{rises_without}
+use Rattle.fk_base.proofs.Logic.{by_test}
 
 -- EDITING
 pub edited_step : (tx moment : ℕ) (p : PathNames) (es : List Edit) (i : ℕ) (d : Edit) (o : Option Node) → i < length es → edited tx moment p (drop i es) o ≡ edited tx moment p (drop (suc i) es) (cond (same_path p (get_or es i d).path) (edit tx moment (get_or es i d).what o) o)

@@ -13,8 +13,9 @@ pub mod Owning
 pub mod Parents
 mod Parting
 pub mod Passing
-mod Refusing
+pub mod Refusing
 pub mod Rising
+pub mod SameKind
 mod Samples
 mod Seeking
 mod Showing
@@ -23,4 +24,4 @@ pub mod Standing
 pub mod Starting
 pub mod Views
 mod Whole
-mod Written
+pub mod Written

@@ -8,7 +8,8 @@ use Rattle.fk_base.specs.Path.{PathNames, path_cmp, same_path}
 use Rattle.fk_tree.specs.declared.node.Node.{Node}
 use Rattle.fk_tree.specs.Tree.{map_some}
 use Rattle.fk_tree.specs.Rows.{Row, row_node, has_row}
-use Rattle.fk_tree.proofs.Order.{same_path_is, same_path_self, by_test}
+use Rattle.fk_tree.proofs.Order.{same_path_is, same_path_self}
+use Rattle.fk_base.proofs.Logic.{by_test}
 
 abbrev pub Slots : Type 0
 Slots = BTreeMap PathNames (Option Node)

@@ -15,7 +15,8 @@ use Rattle.std.proofs.lemmas.Map.Keys.{sorted_head, sorted_tail}
 use Rattle.fk_tree.specs.Sorted.{has_path, is_below, rises}
 use Rattle.fk_tree.specs.Rows.{Row, row_node, is_of, is_in_set, is_noted, those_of, noted, noted_in, AreNoted}
 use Rattle.fk_tree.proofs.Looking.{same_flip}
-use Rattle.fk_tree.proofs.Order.{by_test, and_left, and_right, same_path_is}
+use Rattle.fk_tree.proofs.Order.{same_path_is}
+use Rattle.fk_base.proofs.Logic.{and_left, and_right, by_test}
 
 abbrev pub Sets : Type 0
 Sets = BTreeMap ℕ (BTreeSet PathNames)

@@ -5,22 +5,9 @@ use Rattle.std.specs.Ordering.{is_eq, ordering_then}
 use Rattle.std.specs.Cmp.{IsTotalOrder, Equal-is, tied_itself}
 use Rattle.std.specs.FinMap.{IsAntisymmetric, slice_cmp-IsAntisymmetric, nat_cmp-IsAntisymmetric}
 use Rattle.std.proofs.lemmas.Cmp.{nat_list_cmp_total, lists_total}
-use Rattle.std.proofs.lemmas.Bool.{false≢true}
 use Rattle.fk_base.specs.Path.{Name, PathNames, name_cmp, path_cmp, same_name, same_path, parent, last_name}
 use Rattle.fk_tree.specs.Tree.{name_under}
-
--- a test is true or false, and what is wanted holds at both
-pub by_test : (b : Bool) (P : Bool → Type 0) → (b ≡ true → P true) → (b ≡ false → P false) → P b
-by_test true P f g = f refl
-by_test false P f g = g refl
-
-pub and_left : (a b : Bool) → (a && b) ≡ true → a ≡ true
-and_left true b e = refl
-and_left false b e = e
-
-pub and_right : (a b : Bool) → (a && b) ≡ true → b ≡ true
-and_right true b e = e
-and_right false b e = absurd (false≢true e)
+use Rattle.fk_base.proofs.Logic.{by_test}
 
 pub tested : (b : Bool) → T b → b ≡ true
 tested true h = refl

@@ -11,8 +11,9 @@ use Rattle.fk_tree.specs.Sorted.{has_path, is_below, rises}
 use Rattle.fk_tree.specs.Tree.{Bare, Nodes, children, with_names, map_some, node_view}
 use Rattle.fk_tree.specs.Fill.{owned, owned_in}
 use Rattle.fk_tree.specs.Rows.{is_free, is_of}
-use Rattle.fk_tree.proofs.Order.{by_test, tested, tested_left, tested_right, path_total, path_exact, same_path_is}
+use Rattle.fk_tree.proofs.Order.{tested, tested_left, tested_right, path_total, path_exact, same_path_is}
 use Rattle.fk_tree.proofs.Rising.{same_rising}
+use Rattle.fk_base.proofs.Logic.{by_test}
 
 abbrev pub owner_is : ℕ → Option Bare → Bool
 owner_is s None = false

@@ -8,9 +8,10 @@ use Rattle.fk_tree.specs.Tree.{Bare, Nodes, fresh}
 use Rattle.fk_tree.specs.Sorted.{has_path}
 use Rattle.fk_tree.specs.Rows.{HasParents, is_free}
 use Rattle.fk_tree.specs.Apply.{grown, shrunk, replaced, at_path, create_node, set_node, delete_node, delete_nodes}
-use Rattle.fk_tree.proofs.Order.{by_test, and_left, path_total, same_path_is, same_path_self, same_child, child_parts}
+use Rattle.fk_tree.proofs.Order.{path_total, same_path_is, same_path_self, same_child, child_parts}
 use Rattle.fk_tree.proofs.Views.{with_node, free_some, free_at_path, some_at_path, some_create}
 use Rattle.fk_tree.proofs.Deletes.{some_delete}
+use Rattle.fk_base.proofs.Logic.{and_left, by_test}
 
 pub set_keeps : (t : Nodes) (p : PathNames) (bytes : List ℕ) (tx moment : ℕ) → HasParents t → HasParents (set_node p bytes tx moment t)
 set_keeps t p bytes tx moment h q n s = free_at_path p (replaced bytes tx moment) t q (λ b. refl) ∙ h q n (sym (some_at_path p (replaced bytes tx moment) t (q ++ n ∷ [])) ∙ s)

@@ -1,5 +1,5 @@
 -- The checks of a create.
-use Rattle.std.proofs.Common.{◌≡◌, ◌∷◌, [], ◌++◌, ℕ, Bool, true, false, cond, List, Option, Some, None, refl, sym, ◌∙◌, ap, subst}
+use Rattle.std.proofs.Common.{◌≡◌, ◌∷◌, [], ◌++◌, ℕ, Bool, true, false, cond, Option, Some, None, refl, sym, ◌∙◌, ap}
 use Rattle.std.specs.Prelude.{is_some}
 use Rattle.std.specs.FinMap.{get}
 use Rattle.fk_base.specs.Path.{Name, PathNames, name_cmp, parent, last_name, is_root}
@@ -9,7 +9,7 @@ use Rattle.fk_tree.specs.Sorted.{has_name, rises}
 use Rattle.fk_tree.specs.Tree.{Bare, Tree, Nodes, children, map_some, node_view, with_names}
 use Rattle.fk_tree.specs.View.{View, look}
 use Rattle.fk_tree.specs.Fill.{digits, final_path}
-use Rattle.fk_tree.specs.Check.{check_create, check_under}
+use Rattle.fk_tree.specs.Check.{check_create}
 use Rattle.fk_tree.specs.Rows.{code_under, names_of}
 use Rattle.fk_tree.proofs.Order.{child_parts}
 use Rattle.fk_tree.proofs.Passing.{some_view}
@@ -32,7 +32,7 @@ named_under (x ∷ p) true made r = refl
 named_under (x ∷ p) false made r = child_parts x p
 
 -- THE NODES OF A TREE
-names_are : (t : Nodes) (p : PathNames) (d : Node) → node_view t p ≡ Some d → d.names ≡ children t p
+pub names_are : (t : Nodes) (p : PathNames) (d : Node) → node_view t p ≡ Some d → d.names ≡ children t p
 names_are t p d e = sym (ap names_of e) ∙ step (get t p) e
   where
     step : (o : Option Bare) → map_some (with_names (children t p)) o ≡ Some d → names_of (map_some (with_names (children t p)) o) ≡ children t p

@@ -6,7 +6,7 @@ use Rattle.std.specs.Cmp.{IsTotalOrder, Equal-is, tied_itself, both_ways}
 use Rattle.std.specs.FinMap.{IsAntisymmetric}
 use Rattle.std.proofs.lemmas.Bool.{false≢true, false_from_ne_true}
 use Rattle.fk_tree.specs.Sorted.{has, with_key, without_key, is_below, rises}
-use Rattle.fk_tree.proofs.Order.{and_left, and_right}
+use Rattle.fk_base.proofs.Logic.{and_left, and_right}
 
 pub less : (o : Ordering) → is_lt o ≡ true → o ≡ Less
 less Less e = refl

@@ -6,9 +6,10 @@ use Rattle.std.specs.Ordering.{is_eq, is_lt, is_gt, ordering_reverse}
 use Rattle.std.proofs.lemmas.Bool.{false≢true}
 use Rattle.fk_base.specs.Path.{Name, name_cmp, same_name}
 use Rattle.fk_tree.specs.Sorted.{has_name, drop_name, place_from, is_below, rises}
-use Rattle.fk_tree.proofs.Order.{by_test, and_left, and_right, name_total, name_exact}
+use Rattle.fk_tree.proofs.Order.{name_total, name_exact}
 use Rattle.fk_tree.proofs.Rising.{below_absent, below_further, less}
 use Rattle.fk_tree.proofs.Sorting.{place_later}
+use Rattle.fk_base.proofs.Logic.{and_left, and_right, by_test}
 
 greater : (o : Ordering) → is_gt o ≡ true → o ≡ Greater
 greater Less e = absurd (false≢true e)

@@ -12,8 +12,9 @@ use Rattle.fk_tree.specs.Tree.{Bare, Nodes, name_under, with_first, names_under,
 use Rattle.fk_tree.specs.Edit.{edit, edited, create_edits, set_edits}
 use Rattle.fk_tree.specs.Rows.{HasParents, is_free}
 use Rattle.fk_tree.specs.Apply.{grown, replaced, put_some, at_path, create_node, set_node}
-use Rattle.fk_tree.proofs.Order.{by_test, tested, tested_left, tested_right, name_total, name_exact, path_total, same_path_is, names_it, child_is, child_order, name_under_is, same_child, child_apart, child_parts}
+use Rattle.fk_tree.proofs.Order.{tested, tested_left, tested_right, name_total, name_exact, path_total, same_path_is, names_it, child_is, child_order, name_under_is, same_child, child_apart, child_parts}
 use Rattle.fk_tree.proofs.Rising.{same_rising, has_with, rises_with}
+use Rattle.fk_base.proofs.Logic.{by_test}
 
 has_with_first : (n : Name) (o : Option Name) (ns : List Name) → has_name n (with_first o ns) ≡ (names_it n o || has_name n ns)
 has_with_first n None ns = refl

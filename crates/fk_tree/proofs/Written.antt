@@ -11,7 +11,8 @@ use Rattle.fk_tree.specs.Edit.{edit, edited}
 use Rattle.fk_tree.specs.Touch.{edit_paths}
 use Rattle.fk_tree.specs.Rows.{Row, unnamed, row_node, has_row, with_row, nodes_of, HasParents, IsKept, KeepSame, KeepsNotes, AreNoted, is_of, have_rows, changes_have_rows, changes_by, written}
 use Rattle.fk_tree.proofs.Notes.{Sets}
-use Rattle.fk_tree.proofs.Order.{by_test, path_total, path_exact, same_path_is}
+use Rattle.fk_tree.proofs.Order.{path_total, path_exact, same_path_is}
+use Rattle.fk_base.proofs.Logic.{by_test}
 
 -- THE EDITS OF A PATH
 pub edited_have_rows : (tx moment : ℕ) (rows : List Row) (all es : List Edit) → have_rows es rows ≡ true → changes_have_rows (changes_by tx moment rows all es) rows ≡ true
@@ -31,7 +32,7 @@ written_edited tx moment p rows all (e ∷ es) o =
     (λ _. written_edited tx moment p rows all es o)
 
 -- without an edit of its path a node stays
-untouched : (tx moment : ℕ) (p : PathNames) (es : List Edit) (o : Option Node) → has_path p (edit_paths es) ≡ false → edited tx moment p es o ≡ o
+pub untouched : (tx moment : ℕ) (p : PathNames) (es : List Edit) (o : Option Node) → has_path p (edit_paths es) ≡ false → edited tx moment p es o ≡ o
 untouched tx moment p [] o h = refl
 untouched tx moment p (e ∷ es) o h = step (same_path p e.path) h (untouched tx moment p es)
   where

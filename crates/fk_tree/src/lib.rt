@@ -33,7 +33,7 @@ pub use edit::{Edit, What};
 pub use effect_list::effects;
 pub use fault::CheckFault;
 pub use lists::{Edits, Mades, Parts, Replies, Touches};
-pub use node::{Node, Stat};
+pub use node::{Node, Stat, copy_node};
 pub use node_edit::{edit_node, edit_sorted};
 pub use reply::{Answer, PartReply, Reply};
 pub use request::{Part, Query, Request};

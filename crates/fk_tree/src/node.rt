@@ -1,7 +1,8 @@
-ghost use Rattle.std.specs.Prelude.{◌≡◌, min, IfOk};
-ghost use Rattle.fk_tree.specs.Tree.{stat_of, top};
+ghost use Rattle.std.specs.Prelude.{◌≡◌, [], min, IfOk};
+ghost use Rattle.fk_tree.specs.Tree.{root_node, stat_of, top, with_names};
 
 use fk_base::{Bytes, Names, NoMemory};
+use std::alloc::Global;
 
 /// What is known of a node without its data, as ZooKeeper's `Stat`.
 #[derive(Clone, Copy, Debug, PartialEq, Eq)]
@@ -45,6 +46,25 @@ pub struct Node {
 }
 
 impl Node {
+    /// The root as it starts: no data, no child and all numbers 0.
+    pub fn root(alloc: Global) -> Node
+        ensures { result ≡ with_names [] root_node }
+    {
+        Node {
+            bytes: Bytes::new(alloc),
+            czxid: 0,
+            mzxid: 0,
+            pzxid: 0,
+            ctime: 0,
+            mtime: 0,
+            version: 0,
+            cversion: 0,
+            made: 0,
+            owner: 0,
+            names: Names::new(alloc),
+        }
+    }
+
     pub fn stat(&self) -> Stat
         ensures { result ≡ stat_of self.now }
     {
@@ -87,4 +107,14 @@ fn shown(count: usize) -> u32
     ensures { result ≡ min count top }
 {
     u32::try_from(count).unwrap_or(u32::MAX)
+}
+
+/// A copy of a node, where there is one.
+pub fn copy_node(node: &Option<Node>) -> Result<Option<Node>, NoMemory>
+    ensures { IfOk result (λ n. n ≡ node.now) }
+{
+    match node {
+        None => Ok(None),
+        Some(node) => Ok(Some(node.copy()?)),
+    }
 }

@@ -9,7 +9,7 @@ ghost use Rattle.fk_tree.specs.Tree.{map_some, root_node, with_names};
 
 use crate::node::Node;
 use crate::node_edit::{add_sorted, drop_sorted, replace};
-use fk_base::{Bytes, Names, NoMemory, Path, Text};
+use fk_base::{Bytes, NoMemory, Path, Text};
 use std::alloc::Global;
 use std::collections::BTreeMap;
 
@@ -28,26 +28,8 @@ pub fn root_slots(alloc: Global) -> Result<Slots, NoMemory>
     ensures { IfOk result (λ slots. slots.entries ≡ ([], Some (with_names [] root_node)) ∷ []) }
 {
     let mut slots = BTreeMap::new(alloc);
-    slots.insert(Path::root(alloc), Some(root_node(alloc)))?;
+    slots.insert(Path::root(alloc), Some(Node::root(alloc)))?;
     Ok(slots)
-}
-
-fn root_node(alloc: Global) -> Node
-    ensures { result ≡ with_names [] root_node }
-{
-    Node {
-        bytes: Bytes::new(alloc),
-        czxid: 0,
-        mzxid: 0,
-        pzxid: 0,
-        ctime: 0,
-        mtime: 0,
-        version: 0,
-        cversion: 0,
-        made: 0,
-        owner: 0,
-        names: Names::new(alloc),
-    }
 }
 
 #[tactic(auto, using(crate::proofs::Looking::node_looked_up))]

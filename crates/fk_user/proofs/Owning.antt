@@ -7,8 +7,8 @@ use Rattle.fk_tree.specs.Edit.{edit, edited}
 use Rattle.fk_tree.specs.declared.edit.Edit.{Edit}
 use Rattle.fk_tree.specs.declared.node.Node.{Node}
 use Rattle.fk_tree.specs.Touch.{edits_at}
-use Rattle.fk_tree.proofs.Order.{by_test}
 use Rattle.fk_user.specs.Own.{are_own}
+use Rattle.fk_base.proofs.Logic.{by_test}
 
 -- all edits were gone through
 pub all_chosen : (p : PathNames) (es own : List Edit) (i : ℕ) → length es ≤ i → own ++ edits_at p (drop i es) ≡ edits_at p es → own ≡ edits_at p es

@@ -14,9 +14,9 @@ use Rattle.std.proofs.lemmas.Map.Views.{Contains-from_any, list_any-from_Contain
 use Rattle.std.proofs.lemmas.Bool.Decides.{Decides-eqb}
 use Rattle.indexmap.specs.IndexSet.{insert_key}
 use Rattle.fk_tree.specs.Sorted.{is_below}
-use Rattle.fk_tree.proofs.Order.{and_left, and_right}
 use Rattle.fk_tree.proofs.Rising.{same_rising, below_absent, has_with, rises_with, rises_without}
 use Rattle.fk_user.specs.Ids.{has_id, ids_rise, with_id, without_id}
+use Rattle.fk_base.proofs.Logic.{and_left, and_right}
 
 -- the tests of numbers
 same_eq : (n m : ℕ) → nat_eq n m ≡ is_eq (nat_cmp n m)
@@ -27,11 +27,11 @@ has_any n [] = refl
 has_any n (m ∷ ns) = λ i. (same_eq n m) i || (has_any n ns) i
 
 -- RISING
-below_all : (n : ℕ) (ns : List ℕ) → AllByRecursion (λ m. nat_cmp n m ≡ Less) ns → is_below nat_cmp n ns ≡ true
+pub below_all : (n : ℕ) (ns : List ℕ) → AllByRecursion (λ m. nat_cmp n m ≡ Less) ns → is_below nat_cmp n ns ≡ true
 below_all n [] h = refl
 below_all n (m ∷ ns) h = rw h.0 (below_all n ns h.1)
 
-strict_rise : (ns : List ℕ) → IsStrictlySortedBy nat_cmp ns → ids_rise ns ≡ true
+pub strict_rise : (ns : List ℕ) → IsStrictlySortedBy nat_cmp ns → ids_rise ns ≡ true
 unfolding IsStrictlySortedBy
 strict_rise [] h = refl
 strict_rise (n ∷ ns) h = rw (below_all n ns h.0) (strict_rise ns h.1)

@@ -5,7 +5,7 @@ use Rattle.fk_base.specs.Path.{PathNames, path_cmp, same_path}
 use Rattle.fk_tree.specs.Edit.{edit, edited}
 use Rattle.fk_tree.specs.declared.edit.Edit.{Edit}
 use Rattle.fk_tree.specs.declared.node.Node.{Node}
-use Rattle.fk_tree.proofs.Order.{and_left, and_right, by_test, same_path_is}
+use Rattle.fk_tree.proofs.Order.{same_path_is}
 use Rattle.fk_tree.proofs.Looking.{same_flip}
 use Rattle.fk_user.specs.declared.record.UserRecord.{UserRecord}
 use Rattle.fk_user.specs.declared.user_store.UserStore.{UserStore}
@@ -13,6 +13,7 @@ use Rattle.fk_user.specs.Meaning.{Meaning, put_record, with_put}
 use Rattle.fk_user.specs.Own.{are_own}
 use Rattle.fk_user.specs.Records.{or_no_record, record_in, IsEdited, KeepsRecords}
 use Rattle.fk_user.specs.Stored.{store_of}
+use Rattle.fk_base.proofs.Logic.{and_left, and_right, by_test}
 
 abbrev pub RecordMap : Type 0
 RecordMap = BTreeMap PathNames UserRecord

@@ -2,11 +2,12 @@
 use Rattle.std.proofs.Common.{◌≡◌, ℕ, ◌≤◌, ◌<◌, Bool, true, false, cond, List, sym, ◌∙◌, ap, subst, arith}
 use Rattle.fk_base.specs.Path.{PathNames, same_path}
 use Rattle.fk_tree.specs.declared.edit.Edit.{Edit}
-use Rattle.fk_tree.proofs.Order.{by_test, same_path_is, same_path_self}
+use Rattle.fk_tree.proofs.Order.{same_path_is, same_path_self}
 use Rattle.fk_user.specs.declared.answer.PutRecord.TheVariants as put
 use Rattle.fk_user.specs.declared.answer.Publish.TheVariants as publish
 use Rattle.fk_user.specs.Meaning.{Meaning, called, put_record, with_put}
 use Rattle.fk_user.specs.StoreLaws.{NeverFalls, PutsNeverFall, PublicationsNeverFall, PutsAreDoneOnce, PublicationsAreDoneOnce}
+use Rattle.fk_base.proofs.Logic.{by_test}
 
 stays : (m : Meaning) → NeverFalls m m
 stays m = (omega arith, λ q. omega arith)

@@ -7,7 +7,7 @@ ghost use Rattle.fk_tree.specs.Rows.{names_of};
 ghost use Rattle.fk_tree.specs.Sorted.{rises};
 ghost use Rattle.fk_user.specs.Meaning.{root_record};
 
-use fk_base::{Bytes, Names, NoMemory};
+use fk_base::NoMemory;
 use fk_tree::{Edit, Node, edit_sorted};
 use std::alloc::Global;
 
@@ -22,21 +22,8 @@ pub struct UserRecord {
 pub fn root_record(alloc: Global) -> UserRecord
     ensures { result ≡ root_record }
 {
-    let node = Node {
-        bytes: Bytes::new(alloc),
-        czxid: 0,
-        mzxid: 0,
-        pzxid: 0,
-        ctime: 0,
-        mtime: 0,
-        version: 0,
-        cversion: 0,
-        made: 0,
-        owner: 0,
-        names: Names::new(alloc),
-    };
     UserRecord {
-        node: Some(node),
+        node: Some(Node::root(alloc)),
         stamp: 0,
     }
 }

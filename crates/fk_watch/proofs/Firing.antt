@@ -16,14 +16,15 @@ use Rattle.fk_tree.specs.declared.change.Change.{Change}
 use Rattle.fk_tree.specs.declared.change.Kind.{Kind}
 use Rattle.fk_tree.specs.declared.change.Kind.TheVariants as kind
 use Rattle.fk_tree.specs.declared.change.Touch.{Touch}
-use Rattle.fk_tree.proofs.Order.{by_test, and_left, and_right, same_path_is, same_path_self}
+use Rattle.fk_tree.proofs.Order.{same_path_is, same_path_self}
 use Rattle.fk_user.specs.Ids.{has_id}
 use Rattle.fk_watch.specs.declared.watch.Watch.{Watch}
 use Rattle.fk_watch.specs.declared.watch.Firing.{Firing}
 use Rattle.fk_watch.specs.Index.{Index, Numbers, number_at, number_in}
 use Rattle.fk_watch.specs.Moving.{fired_by, fired_among, numbers_in, numbers_on, is_on, touched_by, AreOrdered, KeepsOthers}
 use Rattle.fk_watch.specs.Setting.{at, numbered, IsIndexed}
-use Rattle.fk_watch.proofs.Noting.{same_kind_is, same_kind_self}
+use Rattle.fk_base.proofs.Logic.{and_left, and_right, by_test}
+use Rattle.fk_tree.proofs.SameKind.{same_kind_is, same_kind_self}
 
 -- NUMBERS, ONE BY ONE
 pub same_is : (n x : ℕ) → is_eq (nat_cmp n x) ≡ (n == x)

@@ -5,9 +5,10 @@ use Rattle.std.specs.BTreeMap as tree
 use Rattle.std.specs.BTreeMap.{is_at, IsEmpty}
 use Rattle.std.specs.Ordering.{nat_cmp}
 use Rattle.fk_base.specs.Path.{PathNames, path_cmp, same_path}
-use Rattle.fk_tree.proofs.Order.{by_test, same_path_is, same_path_self}
+use Rattle.fk_tree.proofs.Order.{same_path_is, same_path_self}
 use Rattle.fk_tree.proofs.Looking.{same_flip}
 use Rattle.fk_watch.specs.Index.{Index, Numbers, has_place, number_at, number_in, KeepsNumbers}
+use Rattle.fk_base.proofs.Logic.{by_test}
 
 -- one path has these numbers, and the others keep theirs
 abbrev pub IsUpdated : Index → Index → PathNames → Option Numbers → Type 0

@@ -10,7 +10,6 @@ use Rattle.std.proofs.lemmas.List.{append_assoc, append-nil}
 use Rattle.std.proofs.lemmas.Map.Entries.{lookup-filter-values, option_filter}
 use Rattle.std.proofs.lemmas.Map.Keys.{sorted_head, sorted_tail, IsDistinct-from_sorted}
 use Rattle.fk_tree.specs.Sorted.{is_below}
-use Rattle.fk_tree.proofs.Order.{by_test}
 use Rattle.fk_user.specs.Ids.{ids_rise, with_id}
 use Rattle.fk_watch.specs.declared.watch.Firing.{Firing}
 use Rattle.fk_watch.specs.Answers.{fired_with, ids_of, listed}
@@ -18,15 +17,7 @@ use Rattle.fk_watch.specs.Listing.{fired_as, those_of}
 use Rattle.fk_watch.specs.Setting.{at}
 use Rattle.fk_watch.specs.Sweeping.{not_of, only_of}
 use Rattle.fk_watch.proofs.Firing.{same_is, same_id}
-
--- RISING
-below_keys : (k : ℕ) (ks : List ℕ) → AllByRecursion (λ y. nat_cmp k y ≡ Less) ks → is_below nat_cmp k ks ≡ true
-below_keys k [] h = refl
-below_keys k (y ∷ ks) h = rw (ap is_lt h.0) (below_keys k ks h.1)
-
-pub keys_rise : (ks : List ℕ) → IsStrictlySortedBy nat_cmp ks → ids_rise ks ≡ true
-keys_rise [] h = refl
-keys_rise (k ∷ ks) h = rw (below_keys k ks (sorted_head nat_cmp k ks h)) (keys_rise ks (sorted_tail nat_cmp k ks h))
+use Rattle.fk_base.proofs.Logic.{by_test}
 
 below_listed : (tx k : ℕ) (es : List (ℕ × Firing)) → AllByRecursion (λ y. nat_cmp k y ≡ Less) (keys_of es) → is_below nat_cmp k (ids_of (those_of tx es)) ≡ true
 below_listed tx k [] h = refl

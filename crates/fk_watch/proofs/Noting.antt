@@ -4,28 +4,18 @@ use Rattle.std.specs.Prelude.{IfSome, IfNone}
 use Rattle.std.specs.BTreeMap.{is_at}
 use Rattle.std.specs.Ordering.{nat_cmp}
 use Rattle.fk_base.specs.Path.{PathNames}
-use Rattle.fk_tree.specs.Watch.{same_kind}
 use Rattle.fk_tree.specs.declared.change.Kind.{Kind}
 use Rattle.fk_tree.specs.declared.change.Kind.TheVariants as kind
-use Rattle.fk_tree.proofs.Order.{by_test, and_left, and_right, same_path_is, same_path_self}
+use Rattle.fk_tree.proofs.Order.{same_path_is, same_path_self}
 use Rattle.std.proofs.lemmas.Bool.{eqb-true}
 use Rattle.fk_watch.specs.declared.watch.Watch.{Watch}
 use Rattle.fk_watch.specs.Index.{Index, number_in}
 use Rattle.fk_watch.specs.Setting.{at, is_watch, numbered, HasNot, IsIndexed}
+use Rattle.fk_base.proofs.Logic.{and_left, and_right, by_test}
+use Rattle.fk_tree.proofs.SameKind.{same_kind_is, same_kind_self}
 
 pub same_number : (a b : ℕ) → is_at (nat_cmp a) b ≡ (b == a)
 same_number a b = grind arith
-
--- THE TEST OF A WATCH
-pub same_kind_is : (j k : Kind) → same_kind j k ≡ true → j ≡ k
-same_kind_is kind.Data kind.Data e = refl
-same_kind_is kind.Data kind.Child e = absurd (cc)
-same_kind_is kind.Child kind.Data e = absurd (cc)
-same_kind_is kind.Child kind.Child e = refl
-
-pub same_kind_self : (k : Kind) → same_kind k k ≡ true
-same_kind_self kind.Data = refl
-same_kind_self kind.Child = refl
 
 same_session : (s t : ℕ) → (s == t) ≡ true → s ≡ t
 same_session s t e = eqb-true s t e

@@ -6,13 +6,13 @@ use Rattle.fk_base.specs.Path.{PathNames}
 use Rattle.fk_tree.specs.Watch.{first_taken, has_touch}
 use Rattle.fk_tree.specs.declared.change.Change.{Change}
 use Rattle.fk_tree.specs.declared.change.Touch.{Touch}
-use Rattle.fk_tree.proofs.Order.{by_test}
 use Rattle.fk_watch.specs.declared.watch.Watch.{Watch}
 use Rattle.fk_watch.specs.declared.watch.Firing.{Firing}
 use Rattle.fk_watch.specs.Meaning.{Watches, new_watches}
 use Rattle.fk_watch.specs.Registering.{with_watch, IsUnset}
 use Rattle.fk_watch.specs.Sound.{IsGiven, IsSound}
 use Rattle.fk_watch.specs.Sweeping.{fires, firing, not_of, or_else, swept_for, told_for, unless}
+use Rattle.fk_base.proofs.Logic.{by_test}
 
 -- tables that have the same parts are the same
 pub same_watches : (m n : Watches) → m.given ≡ n.given → ((i : ℕ) → m.set i ≡ n.set i) → ((i : ℕ) → m.fired i ≡ n.fired i) → m.swept ≡ n.swept → ((p : PathNames) → m.last p ≡ n.last p) → m.armed ≡ n.armed → m.faults ≡ n.faults → m ≡ n

@@ -7,9 +7,10 @@ use Rattle.std.proofs.lemmas.List.{take_more}
 use Rattle.fk_base.specs.Path.{PathNames, path_cmp, same_path}
 use Rattle.fk_tree.specs.Watch.{has_touch}
 use Rattle.fk_tree.specs.declared.change.Touch.{Touch}
-use Rattle.fk_tree.proofs.Order.{by_test, same_path_is, same_path_self}
+use Rattle.fk_tree.proofs.Order.{same_path_is, same_path_self}
 use Rattle.fk_watch.specs.Kept.{last_in, or_zero}
 use Rattle.fk_watch.specs.Touched.{has_sweep, HaveSweeps, KeepsLasts, KeepsPlaces}
+use Rattle.fk_base.proofs.Logic.{by_test}
 
 abbrev pub Lasts : Type 0
 Lasts = BTreeMap PathNames ℕ

@@ -3,13 +3,10 @@ use Rattle.std.proofs.Common.{◌≡◌, ◌<◌, ℕ, ◌==◌, true, false, co
 use Rattle.std.specs.Ordering.{nat_cmp, is_lt}
 use Rattle.std.proofs.lemmas.Bool.{eqb-true}
 use Rattle.fk_tree.specs.Sorted.{is_below}
-use Rattle.fk_tree.proofs.Order.{by_test, and_left, and_right}
 use Rattle.fk_user.specs.Ids.{ids_rise}
 use Rattle.fk_wire.specs.declared.fired.Fired.{Fired}
 use Rattle.fk_watch.specs.Answers.{fired_with, ids_of}
-
-self_id : (n : ℕ) → (n == n) ≡ true
-self_id n = grind arith
+use Rattle.fk_base.proofs.Logic.{and_left, and_right, by_test, itself}
 
 below_less : (k n : ℕ) → is_lt (nat_cmp k n) ≡ true → k < n
 below_less k n e = grind arith
@@ -38,7 +35,7 @@ same_first f g fs gs a b h =
     (here f.id f fs refl ∙ h f.id)
   where
     here : (n : ℕ) (x : Fired) (xs : List Fired) → n ≡ x.id → Some x ≡ fired_with n (x ∷ xs)
-    here n x xs e = rw (e, self_id x.id) refl
+    here n x xs e = rw (e, itself x.id) refl
 
     apart : (f.id == g.id) ≡ false → g.id < f.id → ⊥
     apart t l =
@@ -49,8 +46,8 @@ same_first f g fs gs a b h =
 
 pub same_fired : (fs gs : List Fired) → ids_rise (ids_of fs) ≡ true → ids_rise (ids_of gs) ≡ true → ((n : ℕ) → fired_with n fs ≡ fired_with n gs) → fs ≡ gs
 same_fired [] [] a b h = refl
-same_fired [] (g ∷ gs) a b h = let e : None ≡ Some g = h g.id ∙ rw (self_id g.id) refl in absurd (cc)
-same_fired (f ∷ fs) [] a b h = let e : None ≡ Some f = sym (h f.id) ∙ rw (self_id f.id) refl in absurd (cc)
+same_fired [] (g ∷ gs) a b h = let e : None ≡ Some g = h g.id ∙ rw (itself g.id) refl in absurd (cc)
+same_fired (f ∷ fs) [] a b h = let e : None ≡ Some f = sym (h f.id) ∙ rw (itself f.id) refl in absurd (cc)
 same_fired (f ∷ fs) (g ∷ gs) a b h =
     let first : f ≡ g = same_first f g fs gs (and_left _ _ a) (and_left _ _ b) h in
     let low : is_below nat_cmp f.id (ids_of gs) ≡ true = rw first (and_left _ _ b) in

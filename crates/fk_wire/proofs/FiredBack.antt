@@ -1,5 +1,5 @@
 -- A watch that fired is fit, and reads back.
-use Rattle.std.proofs.Common.{◌≡◌, ℕ, ◌^◌, suc, List, [], ◌∷◌, map, Some, refl, IsUtf8}
+use Rattle.std.proofs.Common.{◌≡◌, ℕ, suc, List, [], ◌∷◌, map, Some, refl, IsUtf8}
 use Rattle.json.proofs.Printed.Utf8.{IsUtf8-are_ascii as utf8_key}
 use Rattle.serde_json.specs.View.{items_of}
 use Rattle.serde_json.specs.Written.{items_outline, outline}

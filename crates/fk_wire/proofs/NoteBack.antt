@@ -1,5 +1,5 @@
 -- The texts of a note are read back.
-use Rattle.std.proofs.Common.{◌^◌, refl}
+use Rattle.std.proofs.Common.{refl}
 use Rattle.json.proofs.Printed.Utf8.{IsUtf8-are_ascii as utf8_key}
 use Rattle.fk_wire.specs.NoteText.{CanSayNote, IsNote, note_data, note_from}
 use Rattle.fk_wire.proofs.FiredBack.{fired_list_back, fired_list_fit}

@@ -1,5 +1,5 @@
 -- The texts of a pushed request are read back.
-use Rattle.std.proofs.Common.{◌≡◌, ℕ, ◌^◌, List, [], suc, map, Some, refl}
+use Rattle.std.proofs.Common.{◌≡◌, ℕ, List, [], suc, map, Some, refl}
 use Rattle.std.specs.List.{AllByRecursion}
 use Rattle.json.proofs.Printed.Utf8.{IsUtf8-are_ascii as utf8_key}
 use Rattle.serde_json.specs.View.{items_of}

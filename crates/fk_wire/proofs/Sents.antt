@@ -1,5 +1,5 @@
 -- The texts of a sent request are read back.
-use Rattle.std.proofs.Common.{◌^◌, refl}
+use Rattle.std.proofs.Common.{refl}
 use Rattle.json.proofs.Printed.Utf8.{IsUtf8-are_ascii as utf8_key}
 use Rattle.fk_wire.specs.SentText.{CanSaySent, IsSent, sent_data, sent_from}
 use Rattle.fk_wire.proofs.Requests.{request_back, request_fit}

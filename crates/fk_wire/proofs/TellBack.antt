@@ -1,5 +1,5 @@
 -- The texts of a tell are read back.
-use Rattle.std.proofs.Common.{◌≡◌, ◌^◌, Some, option_and_then, refl, arith}
+use Rattle.std.proofs.Common.{◌≡◌, Some, refl, arith}
 use Rattle.json.proofs.Printed.Utf8.{IsUtf8-are_ascii as utf8_key}
 use Rattle.std.specs.Fmt.{digits}
 use Rattle.serde_json.specs.Find.{of_integer}

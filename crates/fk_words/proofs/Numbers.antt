@@ -4,10 +4,8 @@ use Rattle.std.specs.Str.{all_ascii_digits}
 use Rattle.std.specs.Str.Parse.{ParsesUnsigned, digits_value}
 use Rattle.std.specs.declared.result.Result.{Result}
 use Rattle.std.specs.declared.result.Result.TheVariants.{Err}
-use Rattle.std.proofs.lemmas.Str.Parse.{IsNumeralModel, numerals_by_value, tells_all_ascii_digits, parse_digits, digits_value_short}
-
-numerals : IsNumeralModel (λ ds. all_ascii_digits ds ≡ true) (digits_value 10)
-numerals = numerals_by_value _ tells_all_ascii_digits
+use Rattle.std.proofs.lemmas.Str.Parse.{parse_digits, digits_value_short}
+use Rattle.fk_base.proofs.Numerals.{numerals}
 
 -- each number of nine digits fits
 pub few_digits_fit : (word : List ℕ) {E : Type 0} (r : Result ℕ E) (e : E) → all_ascii_digits word ≡ true → 0 < length word → length word ≤ 9

@@ -1,5 +1,5 @@
 -- What one word does to `clap`, and to the items of a command line.
-use Rattle.std.proofs.Common.{◌≡◌, ◌≢◌, ℕ, List, [], ◌∷◌, ◌++◌, Bool, true, false, Option, Some, None, codes, map, refl, sym, ap, ap₂, ◌∙◌, ◌||◌, length, true≢false}
+use Rattle.std.proofs.Common.{Bool, List, None, Option, Some, [], ap, append-nil, ap₂, codes, false, length, map, refl, sym, true, true≢false, ℕ, ◌++◌, ◌||◌, ◌∙◌, ◌∷◌, ◌≡◌, ◌≢◌}
 use Rattle.std.proofs.Math.Dec.{eqb-suc-zero}
 use Rattle.std.specs.Str.{bytes_eq, chars}
 use Rattle.clap.specs.Lexer.{long_of, short_of}
@@ -8,7 +8,7 @@ use Rattle.clap.specs.declared.error.kind.ErrorKind.{ErrorKind}
 use Rattle.clap.specs.Kinds.{or_else}
 use Rattle.clap.specs.Faults.{turn_fault, settle_fault, use_fault, flags_fault}
 use Rattle.clap.specs.Simple.{Shape, built, with_index, filled}
-use Rattle.clap.specs.Walk.{Held, Walk, Waiting, idle, walked, walk, settled, at_row, has_row, used, reading_by, bundle_met, nothing_held, with_default}
+use Rattle.clap.specs.Walk.{Held, Walk, Waiting, idle, walked, settled, at_row, has_row, used, reading_by, bundle_met}
 use Rattle.clap.specs.Walk as walking
 use Rattle.clap.specs.declared.parser.matches.ValueSource.TheVariants.{CommandLine}
 use Rattle.fk_words.specs.Words.{Word}
@@ -60,10 +60,6 @@ at_row-absent name change missing (r ∷ rs) h = by (bytes_eq r.id name) refl
     by true e rest = absurd (true≢false (sym (ap (λ b. b || has_row name rs) e) ∙ h))
     by false e rest = rw e (ap (λ l. r ∷ l) (rest e))
 
-pub append-nothing : (rs : List Row) → rs ++ [] ≡ rs
-append-nothing [] = refl
-append-nothing (r ∷ rs) = ap (λ l. r ∷ l) (append-nothing rs)
-
 -- the rows after one more use
 abbrev pub used_item : Item → List Row → List Row
 used_item summary rs = used summary_built [] rs
@@ -75,7 +71,7 @@ map-append (j ∷ items) i = ap (λ l. row j ∷ l) (map-append items i)
 
 pub with_fresh : (name : Word) (change other : Row → List Row) (missing rs : List Row) → has_row name rs ≡ false → at_row name change missing (at_row name other [] rs) ≡ rs ++ missing
 with_fresh name change other missing rs h =
-    ap (at_row name change missing) (at_row-absent name other [] rs h ∙ append-nothing rs) ∙ at_row-absent name change missing rs h
+    ap (at_row name change missing) (at_row-absent name other [] rs h ∙ append-nil rs) ∙ at_row-absent name change missing rs h
 
 pub fresh : (a : Rule) (values : List Word) (rs : List Row) → has_row a.id rs ≡ false
     → walking.with_values a.id (reading_by a) CommandLine values (walking.without a.id rs) ≡ rs ++ record { id = a.id; values = values; count = None; source = Some CommandLine; reading = reading_by a } ∷ []

@@ -6,13 +6,13 @@ use Rattle.fk_print.specs.declared.entry.Entry.{Entry}
 use Rattle.fk_script.specs.declared.deployment.Deployment.{Deployment}
 use Rattle.fk_spec.specs.Plan.{Ask, Plan, asks_in, plan_of}
 use Rattle.fk_spec.specs.Function.{in_flight}
-use Rattle.fk_spec.specs.Client.{Client, client_of, is_none_sent, next_asked}
+use Rattle.fk_spec.specs.Client.{Client, client_of, next_asked}
 use Rattle.fk_queue.proofs.Counting.{no_blocks_where_none_waits}
 use Rattle.fk_queue.specs.Meaning.{blocks_in, waiting_in}
 use Rattle.fk_queue.specs.Meaning as post
 use Rattle.fk_stand.specs.Posts.{post_after}
 use Rattle.fk_client.specs.Idle.{owes_none}
-use Rattle.fk_client.specs.Knowing.{all_known, client_known}
+use Rattle.fk_client.specs.Knowing.{client_known}
 use Rattle.fk_client.specs.Meaning as client
 use Rattle.fk_client.specs.Meaning.{is_none_next}
 use Rattle.fk_client.specs.declared.unanswered.Unanswered.{Unanswered}
@@ -24,13 +24,10 @@ use Rattle.fk_agree_client.specs.Standing.{IsClient}
 use Rattle.fk_agree_engine.proofs.Asks.{AreFrom, all_clients, are_in_flight, first_of, rest_of}
 use Rattle.fk_world.specs.Quiet.{are_done, is_done, is_quiet}
 use Rattle.fk_world.specs.World.{IsSound}
-
-none_known : (ss : List Unanswered) → is_none_sent ss ≡ is_none_sent (all_known ss)
-none_known [] = refl
-none_known (s ∷ ss) = refl
+use Rattle.fk_client.proofs.Same.{same_none}
 
 done_known : (asks : List Ask) (x : Client Unanswered) → is_done asks x ≡ is_done asks (client_known x)
-done_known asks x = ap (λ b. (b && is_none_next (next_asked asks x)) && owes_none x.owed) (none_known x.sent)
+done_known asks x = ap (λ b. (b && is_none_next (next_asked asks x)) && owes_none x.owed) (same_none x.sent)
 
 done_is : (p : Plan) (c : ℕ) (h : List Entry) (m : client.Meaning) → IsClient p c h m → drain.is_done m ≡ is_done (asks_in p c) (client_of p c h)
 done_is p c h m s = ap drain.is_done s.is ∙ done_known (asks_in p c) s.client ∙ ap (is_done (asks_in p c)) s.holds.known

@@ -1,5 +1,5 @@
 use Rattle.fk_queue.specs.Posts.{post_of}
-use Rattle.fk_client.proofs.Steps.{text_told, told_text}
+use Rattle.fk_client.proofs.Steps.{told_text}
 use Rattle.fk_client.proofs.taking.head_message.Goals as goal
 
 pub tell_of-requires : goal.tell_of-requires

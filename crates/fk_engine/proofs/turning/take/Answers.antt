@@ -1,9 +1,9 @@
 use Rattle.std.proofs.Common.{◌≡◌, true, sym, subst}
 use Rattle.fk_queue.specs.Lanes.{is_session}
 use Rattle.fk_queue.specs.Posts.{post_of}
-use Rattle.fk_engine.proofs.Oks.{ok_each}
 use Rattle.fk_engine.proofs.Turns.{busy_turn, idle_turn, session_is}
 use Rattle.fk_engine.proofs.turning.take.Goals as goal
+use Rattle.fk_base.proofs.Logic.{ok_each}
 
 pub idle-requires : goal.idle-requires
 idle-requires g c = subst (λ s. is_session (post_of c.args.services.now.post).sessions s ≡ true) (session_is c.args.client.now) c.requires.session

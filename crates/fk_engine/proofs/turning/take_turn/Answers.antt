@@ -1,9 +1,9 @@
 use Rattle.std.proofs.Common.{refl, subst}
 use Rattle.fk_engine.specs.Fit.{FitsTurnOf}
 use Rattle.fk_engine.specs.Serving.{services_of}
-use Rattle.fk_engine.proofs.Oks.{ok_each}
 use Rattle.fk_engine.proofs.Turns.{client_at, turn_past, turn_within}
 use Rattle.fk_engine.proofs.turning.take_turn.Goals as goal
+use Rattle.fk_base.proofs.Logic.{ok_each}
 
 pub returns-in-None : goal.returns-in-None
 returns-in-None g c = turn_past _ _ _ _ _ (rw (← c.as_slice.ensures.value) c.in-None.ensures.none) c.new.ensures

@@ -1,7 +1,7 @@
 use Rattle.std.proofs.Common.{◌∙◌}
-use Rattle.fk_index.proofs.Finding.{ok_so}
 use Rattle.fk_index.proofs.Marking.{lent_marks, lent_place, lent_places}
 use Rattle.fk_index.proofs.owners.add_place.Goals as goal
+use Rattle.fk_base.proofs.Logic.{ok_so}
 
 pub returns-in-Some-clause-place : goal.returns-in-Some-clause-place
 returns-in-Some-clause-place c = ok_so c.place_in.result c.place_in.ensures.place (lent_place c.add_marks.new.owners c.args.session c.get_mut.follows.lender c.in-Some.marks.now c.place_in.new.marks c.args.path.now c.in-Some.ensures.value c.get_mut.follows.holds)

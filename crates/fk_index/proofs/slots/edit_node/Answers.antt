@@ -5,8 +5,9 @@ use Rattle.fk_tree.specs.Rows.{names_of}
 use Rattle.fk_tree.specs.Sorted.{rises}
 use Rattle.fk_index.specs.Parts.{with_node}
 use Rattle.fk_index.specs.Slots.{flat, node_of}
-use Rattle.fk_index.proofs.Finding.{changed, err_so, missing, ok_so, same_written, slots_written}
+use Rattle.fk_index.proofs.Finding.{changed, err_so, missing, same_written, slots_written}
 use Rattle.fk_index.proofs.slots.edit_node.Goals as goal
+use Rattle.fk_base.proofs.Logic.{ok_so}
 
 pub edit_in-requires : goal.edit_in-requires
 edit_in-requires c = subst (λ o. rises name_cmp (names_of (node_of (flat o))) ≡ true) (sym c.in-Some.ensures.value) c.requires

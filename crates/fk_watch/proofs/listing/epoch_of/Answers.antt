@@ -1,8 +1,9 @@
 use Rattle.std.specs.BTreeMap.{keys}
 use Rattle.std.specs.Map.Iter.{deref}
 use Rattle.std.proofs.lemmas.Map.Iter.{rest_more, rest_all}
-use Rattle.fk_watch.proofs.Listed.{epoch_step, keys_rise, whole_list}
+use Rattle.fk_watch.proofs.Listed.{epoch_step, whole_list}
 use Rattle.fk_watch.proofs.listing.epoch_of.Goals as goal
+use Rattle.fk_user.proofs.Placing.{strict_rise}
 
 pub listing-preserved : goal.listing-preserved
 listing-preserved c =
@@ -12,4 +13,4 @@ listing-preserved c =
 pub returns-clause-rising : goal.returns-clause-rising
 returns-clause-rising c =
     rw (whole_list c.listing.ids c.listing.number-iterator (keys c.args.fired.now) c.listing.invariant (rest_all deref c.listing.number-iterator c.next.new.self c.next.result c.in-None.is c.next.ensures.steps))
-    (keys_rise (keys c.args.fired.now) c.keys-number-items.ensures.ordered)
+    (strict_rise (keys c.args.fired.now) c.keys-number-items.ensures.ordered)

@@ -1,11 +1,12 @@
 use Rattle.std.proofs.Common.{ap, refl}
 use Rattle.fk_engine.specs.Machines as machine
 use Rattle.fk_engine.specs.Reads.{nothing_read}
-use Rattle.fk_engine.proofs.Oks.{ok_all, ok_each}
+use Rattle.fk_engine.proofs.Oks.{ok_all}
 use Rattle.fk_engine.proofs.Steps.{same_services}
 use Rattle.fk_engine.proofs.machine.Machine.operate.Goals as goal
 use Rattle.fk_follow.specs.Standing.{follower_of}
 use Rattle.fk_lead.specs.Standing.{leader_of}
+use Rattle.fk_base.proofs.Logic.{ok_each}
 
 pub returns-in-Follower-clause-op : goal.returns-in-Follower-clause-op
 returns-in-Follower-clause-op g c = rw c.in-Follower.is (ok_each c.step.result c.step.ensures (λ o h r i. h.op r.owned i))

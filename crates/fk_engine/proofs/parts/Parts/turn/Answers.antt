@@ -1,7 +1,8 @@
 use Rattle.std.proofs.Common.{refl}
-use Rattle.fk_engine.proofs.Oks.{ok_all, ok_each}
+use Rattle.fk_engine.proofs.Oks.{ok_all}
 use Rattle.fk_engine.proofs.Whole.{same_parts}
 use Rattle.fk_engine.proofs.parts.Parts.turn.Goals as goal
+use Rattle.fk_base.proofs.Logic.{ok_each}
 
 pub returns-clause-op : goal.returns-clause-op
 returns-clause-op g c = ok_each c.take_turn.result c.take_turn.ensures (λ x h r i. h.op r.told i)
