@@ -56,6 +56,7 @@ no_version word no_utf8 = step (bytes_eq word (codes "-1")) (λ e. (bytes_eq-Dec
   where
     ascii : IsAscii (codes "-1")
     ascii = IsAscii-cons 45 (49 ∷ []) (omega arith) (IsAscii-cons 49 [] (omega arith) IsAscii-nil)
+
     step : (b : Bool) → (b ≡ true → word ≡ codes "-1") → cond b (Some (negsuc 0)) (option_map pos (number_below (2 ^ 31) word)) ≡ None
     step true e = absurd (no_utf8 (IsUtf8-from_ascii word (rw (e refl) ascii)))
     step false e = ap (option_map pos) (no_text (2 ^ 31) word no_utf8)

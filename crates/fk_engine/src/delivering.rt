@@ -56,7 +56,12 @@ impl<T: Table> Parts<T> {
         let Some(tx) = self.services.post.head(Lane::Leader) else {
             return Ok((Op::Idle, Lines::new(self.alloc)));
         };
-        let message = pushed_at(self.alloc, &self.services.post, Lane::Leader, &mut self.reader)?;
+        let message = pushed_at(
+            self.alloc,
+            &self.services.post,
+            Lane::Leader,
+            &mut self.reader,
+        )?;
         let function = self.functions.next();
         let leader = Leader::start(self.alloc, function, tx, message);
         self.functions.start(Machine::Leader(leader))?;
@@ -75,7 +80,12 @@ impl<T: Table> Parts<T> {
         let Some(note) = self.services.post.head(Lane::Watch) else {
             return Ok((Op::Idle, Lines::new(self.alloc)));
         };
-        let message = note_at(self.alloc, &self.services.post, Lane::Watch, &mut self.reader)?;
+        let message = note_at(
+            self.alloc,
+            &self.services.post,
+            Lane::Watch,
+            &mut self.reader,
+        )?;
         let function = self.functions.next();
         let teller = Teller::start(self.alloc, function, note, message);
         self.functions.start(Machine::Teller(teller))?;

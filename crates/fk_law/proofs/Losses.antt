@@ -173,7 +173,6 @@ lost_new p c k x e h l i s = record {
     t : task_of i.function h ≡ Some (Follows d.0.session d.0.k)
     t = follower_task p i.function h d.0 l.0 d.1
 
-
     f : d.0.session ≡ c
     f = same_Some d.0.session c (sym (ap session_followed t) ∙ i.session)
 

@@ -112,7 +112,6 @@ its_push_before p t n c k e h l a b i = record { push = x.0; pushed = x.1; funct
     r : (d j : ℕ) × (task_of x.0.function h ≡ Some (Follows d j))
     r = push_request p t h x.0 l.0 x.1
 
-
     f : x.0.function ≡ n
     f = ap (λ y. y.function) (same_Some x.0 i.push (sym (push_stays p t e h x.0 l x.1) ∙ i.pushed)) ∙ i.function
 

@@ -45,18 +45,18 @@ change_back change.Child = refl
 
 pub fired_fit : (n : ℕ) (f : Fired) → IsFired f → IsFit (suc n) (fired_data f)
 fired_fit n f h = (
+  utf8_key _ refl,
+  small_fit f.session h.1.0,
+  (
     utf8_key _ refl,
-    small_fit f.session h.1.0,
+    number_fit f.id h.0,
     (
       utf8_key _ refl,
-      number_fit f.id h.0,
-      (
-        utf8_key _ refl,
-        kind_fit f.kind,
-        (utf8_key _ refl, path_fit n f.path h.1.1, (utf8_key _ refl, change_fit f.change, tt)),
-      ),
+      kind_fit f.kind,
+      (utf8_key _ refl, path_fit n f.path h.1.1, (utf8_key _ refl, change_fit f.change, tt)),
     ),
-  )
+  ),
+)
 
 pub fired_back : (f : Fired) → IsFired f → fired_from (outline (fired_data f)) ≡ Some f
 fired_back f h =

@@ -44,97 +44,97 @@ code_back code.SessionExpired = refl
 
 tell_fit : (v : Version) (m : Tell) → IsTell m → CanSayTell v m → IsFit 127 (tell_data v m)
 tell_fit version.One (tell.Done k tx name node made) h s = (
+  utf8_key _ refl,
+  number_fit k h.0.0,
+  (
     utf8_key _ refl,
-    number_fit k h.0.0,
+    path_fit 126 name h.1.0,
+    (
+      utf8_key _ refl,
+      utf8_key _ refl,
+      (utf8_key _ refl, number_fit tx h.0.1, (utf8_key _ refl, version_fit version.One, (utf8_key _ refl, small_fit node h.1.1, tt))),
+    ),
+  ),
+)
+tell_fit version.Two (tell.Done k tx name node made) h s = (
+  utf8_key _ refl,
+  number_fit k h.0.0,
+  (
+    utf8_key _ refl,
+    mades_fit 124 made h.1.2,
     (
       utf8_key _ refl,
       path_fit 126 name h.1.0,
-      (
-        utf8_key _ refl,
-        utf8_key _ refl,
-        (utf8_key _ refl, number_fit tx h.0.1, (utf8_key _ refl, version_fit version.One, (utf8_key _ refl, small_fit node h.1.1, tt))),
-      ),
+      (utf8_key _ refl, utf8_key _ refl, (utf8_key _ refl, number_fit tx h.0.1, (utf8_key _ refl, version_fit version.Two, (utf8_key _ refl, small_fit node h.1.1, tt)))),
     ),
-  )
-tell_fit version.Two (tell.Done k tx name node made) h s = (
+  ),
+)
+tell_fit v (tell.Evicted k tx) h s =
+    (utf8_key _ refl, number_fit k h.0.0, (utf8_key _ refl, utf8_key _ refl, (utf8_key _ refl, number_fit tx h.0.1, (utf8_key _ refl, version_fit v, tt))))
+tell_fit version.One (tell.Refused k c at place) h s = (
+  utf8_key _ refl,
+  number_fit at h.0.1,
+  (
+    utf8_key _ refl,
+    code_fit c,
+    (
+      utf8_key _ refl,
+      number_fit k h.0.0,
+      (utf8_key _ refl, utf8_key _ refl, (utf8_key _ refl, version_fit version.One, tt)),
+    ),
+  ),
+)
+tell_fit version.Two (tell.Refused k c at place) h s = (
+  utf8_key _ refl,
+  number_fit at h.0.1,
+  (
+    utf8_key _ refl,
+    code_fit c,
+    (
+      utf8_key _ refl,
+      number_fit k h.0.0,
+      (utf8_key _ refl, small_fit place h.1, (utf8_key _ refl, utf8_key _ refl, (utf8_key _ refl, version_fit version.Two, tt))),
+    ),
+  ),
+)
+tell_fit v (tell.Lost k path own found moment) h s = (
+  utf8_key _ refl,
+  number_fit found h.0.2,
+  (
     utf8_key _ refl,
     number_fit k h.0.0,
     (
       utf8_key _ refl,
-      mades_fit 124 made h.1.2,
-      (
-        utf8_key _ refl,
-        path_fit 126 name h.1.0,
-        (utf8_key _ refl, utf8_key _ refl, (utf8_key _ refl, number_fit tx h.0.1, (utf8_key _ refl, version_fit version.Two, (utf8_key _ refl, small_fit node h.1.1, tt)))),
-      ),
+      number_fit moment h.0.3,
+      (utf8_key _ refl, number_fit own h.0.1, (utf8_key _ refl, path_fit 126 path h.1, (utf8_key _ refl, utf8_key _ refl, (utf8_key _ refl, version_fit v, tt)))),
     ),
-  )
-tell_fit v (tell.Evicted k tx) h s =
-    (utf8_key _ refl, number_fit k h.0.0, (utf8_key _ refl, utf8_key _ refl, (utf8_key _ refl, number_fit tx h.0.1, (utf8_key _ refl, version_fit v, tt))))
-tell_fit version.One (tell.Refused k c at place) h s = (
-    utf8_key _ refl,
-    number_fit at h.0.1,
-    (
-      utf8_key _ refl,
-      code_fit c,
-      (
-        utf8_key _ refl,
-        number_fit k h.0.0,
-        (utf8_key _ refl, utf8_key _ refl, (utf8_key _ refl, version_fit version.One, tt)),
-      ),
-    ),
-  )
-tell_fit version.Two (tell.Refused k c at place) h s = (
-    utf8_key _ refl,
-    number_fit at h.0.1,
-    (
-      utf8_key _ refl,
-      code_fit c,
-      (
-        utf8_key _ refl,
-        number_fit k h.0.0,
-        (utf8_key _ refl, small_fit place h.1, (utf8_key _ refl, utf8_key _ refl, (utf8_key _ refl, version_fit version.Two, tt))),
-      ),
-    ),
-  )
-tell_fit v (tell.Lost k path own found moment) h s = (
-    utf8_key _ refl,
-    number_fit found h.0.2,
-    (
-      utf8_key _ refl,
-      number_fit k h.0.0,
-      (
-        utf8_key _ refl,
-        number_fit moment h.0.3,
-        (utf8_key _ refl, number_fit own h.0.1, (utf8_key _ refl, path_fit 126 path h.1, (utf8_key _ refl, utf8_key _ refl, (utf8_key _ refl, version_fit v, tt)))),
-      ),
-    ),
-  )
+  ),
+)
 tell_fit v (tell.Watch tx f) h s = (
+  utf8_key _ refl,
+  small_fit f.session h.1.0,
+  (
     utf8_key _ refl,
-    small_fit f.session h.1.0,
+    number_fit f.id h.0.1,
     (
       utf8_key _ refl,
-      number_fit f.id h.0.1,
+      kind_fit f.kind,
       (
         utf8_key _ refl,
-        kind_fit f.kind,
+        path_fit 126 f.path h.1.1,
         (
           utf8_key _ refl,
-          path_fit 126 f.path h.1.1,
+          utf8_key _ refl,
           (
             utf8_key _ refl,
-            utf8_key _ refl,
-            (
-              utf8_key _ refl,
-              number_fit tx h.0.0,
-              (utf8_key _ refl, change_fit f.change, (utf8_key _ refl, version_fit v, tt)),
-            ),
+            number_fit tx h.0.0,
+            (utf8_key _ refl, change_fit f.change, (utf8_key _ refl, version_fit v, tt)),
           ),
         ),
       ),
     ),
-  )
+  ),
+)
 tell_fit v (tell.Ping n) h s = (utf8_key _ refl, number_fit n h.0, (utf8_key _ refl, utf8_key _ refl, (utf8_key _ refl, version_fit v, tt)))
 
 tell_version : (v : Version) (m : Tell) → version_from (outline (tell_data v m)) ≡ Some v

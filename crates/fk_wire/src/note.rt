@@ -10,8 +10,8 @@ ghost use Rattle.fk_wire.specs.declared.version.Version.TheVariants as version;
 
 use crate::fault::WireFault;
 use crate::message::Note;
-use crate::reading::{NUMBERS, number_at, value_of, version_from};
 use crate::reader::Reader;
+use crate::reading::{NUMBERS, number_at, value_of, version_from};
 use crate::version::Version;
 use crate::watches::{fired_list_at, fired_list_value};
 use crate::writing::{is_same, text_of};

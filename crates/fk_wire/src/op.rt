@@ -210,7 +210,11 @@ fn parts_from(alloc: Global, items: &[Json<'_>]) -> Result<Option<Parts>, NoMemo
 }
 
 /// The multi of which a value has the parts, 1 to 16.
-fn multi_from(alloc: Global, version: Version, value: &Json<'_>) -> Result<Option<Request>, NoMemory>
+fn multi_from(
+    alloc: Global,
+    version: Version,
+    value: &Json<'_>,
+) -> Result<Option<Request>, NoMemory>
     ensures request { IfOk result (λ o. o ≡ multi_from version (value_view value.now)) }
     ensures limited { IfOk result (λ o. IfSome o IsLimitedRequest) }
     ensures typed { IfOk result (λ o. IfSome o IsTypedRequest) }
@@ -266,7 +270,11 @@ fn request_of(version: Version, seq: Option<bool>, part: Part) -> Option<Request
 }
 
 /// The request of which a value has the fields.
-fn request_from(alloc: Global, version: Version, value: &Json<'_>) -> Result<Option<Request>, NoMemory>
+fn request_from(
+    alloc: Global,
+    version: Version,
+    value: &Json<'_>,
+) -> Result<Option<Request>, NoMemory>
     ensures request { IfOk result (λ o. o ≡ request_from version (value_view value.now)) }
     ensures limited { IfOk result (λ o. IfSome o IsLimitedRequest) }
     ensures typed { IfOk result (λ o. IfSome o IsTypedRequest) }

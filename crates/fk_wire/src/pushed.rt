@@ -17,8 +17,8 @@ use crate::mades::{made_in, mades_value};
 use crate::message::Pushed;
 use crate::object::Object;
 use crate::op::{op_at, request_value};
-use crate::reading::{NUMBERS, SMALL, number_at, path_at, paths_at, value_of, version_from};
 use crate::reader::Reader;
+use crate::reading::{NUMBERS, SMALL, number_at, path_at, paths_at, value_of, version_from};
 use crate::version::Version;
 use crate::writing::{is_same, paths_value, text_of, text_of_path};
 use fk_base::{Bytes, NoMemory};
@@ -114,7 +114,11 @@ fn heading_from(value: &Json<'_>) -> Option<Heading>
 }
 
 /// The message of which a value has the fields.
-fn pushed_from(alloc: Global, version: Version, value: &Json<'_>) -> Result<Option<Pushed>, NoMemory>
+fn pushed_from(
+    alloc: Global,
+    version: Version,
+    value: &Json<'_>,
+) -> Result<Option<Pushed>, NoMemory>
     ensures message { IfOk result (λ o. o ≡ pushed_from version (value_view value.now)) }
     ensures pushed { IfOk result (λ o. IfSome o IsPushed) }
     ensures said { IfOk result (λ o. IfSome o (CanSayPushed version)) }

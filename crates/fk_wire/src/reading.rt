@@ -129,7 +129,11 @@ pub(crate) fn path_at(alloc: Global, value: &Value<'_>, key: &str) -> Result<Opt
 }
 
 /// The bytes at a key.
-pub(crate) fn bytes_at(alloc: Global, value: &Value<'_>, key: &str) -> Result<Option<Bytes>, NoMemory>
+pub(crate) fn bytes_at(
+    alloc: Global,
+    value: &Value<'_>,
+    key: &str,
+) -> Result<Option<Bytes>, NoMemory>
     ensures bytes { IfOk result (λ o. o ≡ bytes_at key.now (value_view value.now)) }
     ensures typed { IfOk result (λ o. IfSome o IsData) }
 {
@@ -161,7 +165,11 @@ fn paths_from(alloc: Global, items: &[Value<'_>]) -> Result<Option<Paths>, NoMem
 }
 
 /// The paths at a key.
-pub(crate) fn paths_at(alloc: Global, value: &Value<'_>, key: &str) -> Result<Option<Paths>, NoMemory>
+pub(crate) fn paths_at(
+    alloc: Global,
+    value: &Value<'_>,
+    key: &str,
+) -> Result<Option<Paths>, NoMemory>
     ensures paths { IfOk result (λ o. o ≡ list_at path_from key.now (value_view value.now)) }
     ensures typed { IfOk result (λ o. IfSome o (AllByRecursion IsPath)) }
 {

@@ -8,10 +8,10 @@ ghost use Rattle.fk_wire.specs.declared.version.Version.TheVariants as version;
 
 use crate::fault::WireFault;
 use crate::message::Tell;
+use crate::reader::Reader;
 use crate::reading::{value_of, version_from};
 use crate::tell_reading::tell_from;
 use crate::tell_writing::tell_value;
-use crate::reader::Reader;
 use crate::version::Version;
 use crate::writing::{is_same, text_of};
 use fk_base::{Bytes, NoMemory};
