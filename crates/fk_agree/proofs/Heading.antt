@@ -83,7 +83,6 @@ request_new p c e h bytes f = by_origin (sent_in c h e.op) refl f
     none_some : None ≡ Some bytes → ⊥
     none_some g = grind arith
 
-
     by_request : (y : Origin) (r : Option Request) → sent_in c h e.op ≡ Some y → request_from p c (Some y) ≡ r → option_map (sent_text version.Two) (option_map (λ x. record { request = x; seen = seen_from (Some y) }) r) ≡ Some bytes → IsRequestText p c (sends_of c h + 1) (e ∷ h) bytes
     by_request y None a b g = absurd (none_some g)
     by_request y (Some r) a b g = record {
@@ -141,7 +140,7 @@ push_on p t e h bytes l i = record { push = i.push; pushed = message_stays p t e
 
 push_new : (p : Plan) (e : Entry) (h : List Entry) (o : Op) (bytes : List ℕ) → e.op ≡ o → IsDue p h o → option_map (pushed_text version.Two) (push_message p h o) ≡ Some bytes → IsPushText p (pushes_of h + 1) (e ∷ h) bytes
 push_new p e h (op.Push n t) bytes q d f = by_message (push_message p h (op.Push n t)) refl f
-
+  where
     none_some : None ≡ Some bytes → ⊥
     none_some g = grind arith
 
@@ -179,7 +178,6 @@ note_new p e h (op.Notify n t w) bytes q d f = record {
   where
     x : teller.Note
     x = record { tx = t; fired = (swept_by p n h).fired }
-
 
     its_own : (w : ℕ) → w ≡ notes_of h + 1 → (w == notes_of h + 1) ≡ true
     its_own w g = grind (arith, nat_tests)

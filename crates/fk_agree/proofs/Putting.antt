@@ -59,7 +59,7 @@ same_before p n t s h q l d u = same_between (stamp_of q h) t q (committed_of p 
 
 number_step : (t : ℕ) (a b : Applied) (done : List Applied) → (stored.applied_as t done ≡ Some a → a.tx ≡ t) → stored.applied_as t (b ∷ done) ≡ Some a → a.tx ≡ t
 number_step t a b done i e = by_number (b.tx == t) refl
-
+  where
     by_number : (z : Bool) → (b.tx == t) ≡ z → a.tx ≡ t
     by_number true f = let g : b.tx ≡ t = grind (arith, nat_tests) in sym (ap (λ x. x.tx) (same_Some b a (sym (ap (λ z. cond z (Some b) (stored.applied_as t done)) f) ∙ e))) ∙ g
     by_number false f = i (sym (ap (λ z. cond z (Some b) (stored.applied_as t done)) f) ∙ e)

@@ -151,7 +151,7 @@ set_clients p (e ∷ h) = set_clients_step p h e.op (set_clients p h)
 client_with : (p : Plan) (id : ℕ) (ws : List Watch) (w : Watch) → AreOfClients p ws → watch_with id ws ≡ Some w → is_client p w.session ≡ true
 client_with p id [] w i e = absurd (grind arith)
 client_with p id (v ∷ ws) w i e = one (v.id == id) e (client_with p id ws w i.1)
-
+  where
     one : (b : Bool) → cond b (Some v) (watch_with id ws) ≡ Some w → (watch_with id ws ≡ Some w → is_client p w.session ≡ true) → is_client p w.session ≡ true
     one true f k = subst (λ x. is_client p x.session ≡ true) (same_Some v w f) i.0
     one false f k = k f
