@@ -151,7 +151,7 @@ IsItsMessage p t h x = (y : start.Pushed) → IsLive t h → push_message_of p t
 
 live_step : (p : Plan) (t : ℕ) (e : Entry) (h : List Entry) (x : Pushed) → IsHistory p (e ∷ h) → IsItsMessage p t h x → IsItsMessage p t (e ∷ h) x
 live_step p t e h x l i y v m q = by_push (push_here t (pushed_in (clock_of h) e.op)) refl
-
+  where
     by_push : (o : Option Push) → push_here t (pushed_in (clock_of h) e.op) ≡ o → applied_as t x ≡ filled_after (committed_of p (e ∷ h)) t y
     by_push None b =
         let z = push_bound p t h v.is_of.push l.0 (subst (λ o. or_else o (push_of t h) ≡ Some v.is_of.push) b v.is_of.pushed) in
