@@ -96,7 +96,8 @@ pub fn note_of(alloc: Global, reader: &mut Reader) -> Result<Note, NoMemory>
 pub fn decode_note(alloc: Global, bytes: &[u8]) -> Result<Note, WireFault>
     ensures message { IfOk result (IsNoteText bytes.now) }
     ensures back { (m : Note) → IsNoteText bytes.now m → IfOk result (λ n. n ≡ m) }
-    ensures malformed { result ≡ Err WireFault.Malformed → (m : Note) → ¬ (IsNoteText bytes.now m) }
+    ensures malformed { result ≡ Err WireFault.Malformed
+        → (m : Note) → ¬ (IsNoteText bytes.now m) }
 {
     let mut scratch = Scratch::new(alloc);
     let Some((version, message)) = found(alloc, bytes, &mut scratch)? else {

@@ -54,7 +54,9 @@ fn heading_of(alloc: Global, version: Version, message: &Pushed) -> Result<Objec
 /// The members that hold the paths of a message, with those that are there.
 fn with_paths(alloc: Global, object: Object, message: &Pushed) -> Result<Object, NoMemory>
     ensures paths { IfOk result (λ o. members o ≡ with_paths message.now (members object)) }
-    ensures typed { IfOk result (λ o. AllByRecursion IsPath message.now.gone × IsPath message.now.name × AllByRecursion IsPath message.now.paths) }
+    ensures gone { IfOk result (λ o. AllByRecursion IsPath message.now.gone) }
+    ensures name { IfOk result (λ o. IsPath message.now.name) }
+    ensures paths_typed { IfOk result (λ o. AllByRecursion IsPath message.now.paths) }
 {
     let gone = paths_value(alloc, message.gone.as_slice())?;
     let name = text_of_path(&message.name)?;
@@ -207,7 +209,8 @@ pub fn pushed_of(alloc: Global, reader: &mut Reader) -> Result<Pushed, NoMemory>
 pub fn decode_pushed(alloc: Global, bytes: &[u8]) -> Result<Pushed, WireFault>
     ensures message { IfOk result (IsPushedText bytes.now) }
     ensures back { (m : Pushed) → IsPushedText bytes.now m → IfOk result (λ n. n ≡ m) }
-    ensures malformed { result ≡ Err WireFault.Malformed → (m : Pushed) → ¬ (IsPushedText bytes.now m) }
+    ensures malformed { result ≡ Err WireFault.Malformed
+        → (m : Pushed) → ¬ (IsPushedText bytes.now m) }
 {
     let mut scratch = Scratch::new(alloc);
     let Some((version, message)) = found(alloc, bytes, &mut scratch)? else {

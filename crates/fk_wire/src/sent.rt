@@ -100,7 +100,8 @@ pub fn sent_of(alloc: Global, reader: &mut Reader) -> Result<Sent, NoMemory>
 pub fn decode_send(alloc: Global, bytes: &[u8]) -> Result<Sent, WireFault>
     ensures message { IfOk result (IsSentText bytes.now) }
     ensures back { (m : Sent) → IsSentText bytes.now m → IfOk result (λ n. n ≡ m) }
-    ensures malformed { result ≡ Err WireFault.Malformed → (m : Sent) → ¬ (IsSentText bytes.now m) }
+    ensures malformed { result ≡ Err WireFault.Malformed
+        → (m : Sent) → ¬ (IsSentText bytes.now m) }
 {
     let mut scratch = Scratch::new(alloc);
     let Some((version, message)) = found(alloc, bytes, &mut scratch)? else {

@@ -70,7 +70,8 @@ pub fn tell_of(alloc: Global, reader: &mut Reader) -> Result<Tell, NoMemory>
 pub fn decode_tell(alloc: Global, bytes: &[u8]) -> Result<Tell, WireFault>
     ensures message { IfOk result (IsTellText bytes.now) }
     ensures back { (m : Tell) → IsTellText bytes.now m → IfOk result (λ n. n ≡ m) }
-    ensures malformed { result ≡ Err WireFault.Malformed → (m : Tell) → ¬ (IsTellText bytes.now m) }
+    ensures malformed { result ≡ Err WireFault.Malformed
+        → (m : Tell) → ¬ (IsTellText bytes.now m) }
 {
     let mut scratch = Scratch::new(alloc);
     let Some((version, message)) = found(alloc, bytes, &mut scratch)? else {
