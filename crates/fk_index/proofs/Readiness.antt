@@ -141,6 +141,7 @@ placed_ready d n o q g r = record { places = λ s p l h. g s p (r.places s p l h
 pub still_ready : (d : Drafts) (m n : Slots) (o : Owners) → KeepSame m n → IsReady d m o → IsReady d n o
 still_ready d m n o k r = record { places = λ s p l h. r.places s p l (ap (is_of s) (sym (over_same d m n k p)) ∙ h); rising = rising_same d m n k r.rising }
 
+-- THE EDIT THAT WAITS
 -- it was made in the draft
 pub flushed_ready : (w : Option Step) (d f : Drafts) (n : Slots) (q : Owners) → IsReady d n q → may_wait d w ≡ true → ((p : PathNames) → node_over f n p ≡ pended w p (node_over d n p)) → IsReady f n q
 flushed_ready None d f n q r k u = record { places = λ s p l h. r.places s p l (ap (is_of s) (sym (u p)) ∙ h); rising = λ p. ap (λ x. rises name_cmp (names_of x)) (u p) ∙ r.rising p }

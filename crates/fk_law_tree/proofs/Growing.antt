@@ -96,6 +96,7 @@ applied_is_after t a w f = λ i. record { node = λ p. ((applied t a w f).node p
     closed_same true s = refl
     closed_same false s = refl
 
+-- NODES WITH AN OWNER
 -- a path whose node has an owner has no child
 owner_alone : (t : Tree) (p : PathNames) → IsWellFormed t → is_unowned ((look t).node p) ≡ false → (x : Name) → is_some ((look t).node (p ++ x ∷ [])) ≡ false
 owner_alone t p w u x = by_test (is_some ((look t).node (p ++ x ∷ []))) (λ c. c ≡ false) (λ s. absurd (false≢true (sym u ∙ w.parents p x s))) (λ _. refl)

@@ -19,6 +19,7 @@ use Rattle.fk_watch.specs.Sweeping.{not_of, only_of}
 use Rattle.fk_watch.proofs.Firing.{same_is, same_id}
 use Rattle.fk_base.proofs.Logic.{by_test}
 
+-- RISING
 below_listed : (tx k : ℕ) (es : List (ℕ × Firing)) → AllByRecursion (λ y. nat_cmp k y ≡ Less) (keys_of es) → is_below nat_cmp k (ids_of (those_of tx es)) ≡ true
 below_listed tx k [] h = refl
 below_listed tx k (e ∷ es) h =

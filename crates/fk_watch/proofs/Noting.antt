@@ -17,6 +17,7 @@ use Rattle.fk_tree.proofs.SameKind.{same_kind_is, same_kind_self}
 pub same_number : (a b : ℕ) → is_at (nat_cmp a) b ≡ (b == a)
 same_number a b = grind arith
 
+-- THE TEST OF A WATCH
 same_session : (s t : ℕ) → (s == t) ≡ true → s ≡ t
 same_session s t e = eqb-true s t e
 
