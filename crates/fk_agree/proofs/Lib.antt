@@ -12,6 +12,7 @@ pub mod Locking
 pub mod Messages
 pub mod Posting
 pub mod Putting
+pub mod Replying
 pub mod Serving
 pub mod Settling
 pub mod Sweeping

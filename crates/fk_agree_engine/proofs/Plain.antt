@@ -23,13 +23,10 @@ use Rattle.fk_watch.specs.Beating as beat
 use Rattle.fk_watch.specs.Telling as teller
 use Rattle.fk_stand.specs.Posts.{lane_after}
 use Rattle.fk_spec.specs.Plan.{Plan, is_client}
-use Rattle.fk_spec.specs.Start.{Follows, Leads, Notifies, Probes, clock_of, request_of, starts_of}
+use Rattle.fk_spec.specs.Start.{Follows, Leads, Notifies, Probes, clock_of, starts_of}
 use Rattle.fk_spec.specs.Lanes.{leader_head, session_head, watch_head}
 use Rattle.fk_spec.specs.Client.{client_in}
-use Rattle.fk_spec.specs.Follower as rules
-use Rattle.fk_spec.specs.Follower.{next_for}
-use Rattle.fk_tree.specs.declared.request.Request.{Request}
-use Rattle.fk_spec.specs.Function.{Absent, follow_on, Beating, Following, Leading, Place, Telling, is_absent, moved, place_of}
+use Rattle.fk_spec.specs.Function.{Absent, is_absent, place_of}
 use Rattle.fk_spec.specs.Next as next
 use Rattle.fk_spec.specs.Next.{IsHistory, next_entry}
 use Rattle.fk_law.proofs.Starting.{own_operation_moves_it}
@@ -57,6 +54,7 @@ use Rattle.fk_agree_engine.specs.World.{FunctionsStand, IsWorld, StandsAs}
 use Rattle.fk_agree_engine.proofs.Flights.{functions_move, functions_start, functions_stay}
 use Rattle.fk_agree_engine.proofs.Readable.{IsSilent, silent_sends, still_readable}
 use Rattle.fk_agree_engine.proofs.Turning.{clients_stay}
+use Rattle.fk_law.proofs.Crashing.{crashed}
 
 -- A line that leaves the services. -----------------------------------------------------------------------
 
@@ -141,17 +139,6 @@ is_in_flight p n h (Follower m) s = ap is_absent s.stands
 is_in_flight p n h (Leader m) s = ap is_absent s.stands
 is_in_flight p n h (Teller m) s = ap is_absent s.stands
 is_in_flight p n h (Beat m) s = ap is_absent s.stands
-
-crashed_follower : (p : Plan) (h : List Entry) (n : ℕ) (f : rules.Follower) (o : Option Request) → (let g = next_for p h o (op.Crash n) f in follow_on g.stage g) ≡ Absent
-crashed_follower p h n f None = refl
-crashed_follower p h n f (Some r) = refl
-
-crashed : (p : Plan) (h : List Entry) (n : ℕ) (x : Place) → moved p h (op.Crash n) x ≡ Absent
-crashed p h n Absent = refl
-crashed p h n (Following f) = crashed_follower p h n f (request_of p f.session f.k h)
-crashed p h n (Leading t s) = refl
-crashed p h n (Telling w t s) = refl
-crashed p h n (Beating c s) = refl
 
 crash_same : (p : Plan) (h : List Entry) (n : ℕ) (o : Option machine.Meaning) → StandsAs p n h o → crash_op n o ≡ next.crash_op n (place_of p n h)
 crash_same p h n None s = sym (ap (next.crash_op n) s)

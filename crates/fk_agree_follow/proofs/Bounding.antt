@@ -6,9 +6,7 @@ use Rattle.std.proofs.lemmas.Option.{same_Some}
 use Rattle.fk_base.specs.Path.{PathNames, same_path}
 use Rattle.fk_base.specs.declared.code.Code.{Code}
 use Rattle.fk_tree.specs.Check.{Refusal, check}
-use Rattle.fk_tree.specs.Sorted.{has_path, in_path_order}
-use Rattle.fk_tree.specs.Touch.{edited_paths}
-use Rattle.fk_tree.specs.declared.applied.Applied.{Applied}
+use Rattle.fk_tree.specs.Sorted.{in_path_order}
 use Rattle.fk_tree.specs.declared.request.Request.{Request}
 use Rattle.fk_tree.specs.Edit.{closes}
 use Rattle.fk_tree.specs.Locks.{lock_paths}
@@ -16,41 +14,31 @@ use Rattle.fk_print.specs.declared.entry.Entry.{Entry}
 use Rattle.fk_print.specs.declared.op.Op.{Op}
 use Rattle.fk_print.specs.declared.op.Op.TheVariants as op
 use Rattle.fk_spec.specs.Plan.{Plan, item_after}
-use Rattle.fk_spec.specs.Start.{Push, Start, clock_after, is_session, clock_of, count_push, count_start, pushed_in, pushes_of, seen_from, seen_with, sends_of, session_followed, started_in, starts_of, task_of}
+use Rattle.fk_spec.specs.Start.{Push, Start, clock_after, clock_of, count_start, pushes_of, seen_from, seen_with, sends_of, session_followed, started_in, starts_of, task_of}
 use Rattle.fk_spec.specs.Locks.{Grant, Loss, first_passed, grant_in, granted, is_held_by, last_grant, loss_at, loss_in, loss_of, own_moment, own_moment_in, passed_on}
 use Rattle.fk_spec.specs.Locks as locks
-use Rattle.fk_spec.specs.Settling.{Committed, count_settling, Outcome, Passed, Refused, Settling, last_for, last_of_session, outcome_here, outcome_of, session_of_push, settled_in, settled_of, settling}
-use Rattle.fk_spec.specs.Stored.{committed_in, committed_of, last_edit, last_editor, owned_after, stored_view, with_filled}
+use Rattle.fk_spec.specs.Settling.{Committed, count_settling, Outcome, Passed, Refused, Settling, last_of_session, outcome_here, outcome_of, session_of_push, settled_in, settled_of, settling}
+use Rattle.fk_spec.specs.Stored.{committed_of, last_edit, owned_after, stored_view}
 use Rattle.fk_spec.specs.Follower as follower
 use Rattle.fk_spec.specs.Follower.{Follower, Granted, decided, greatest_last, next_stage, next_with, refusal_number, to_begin, to_lock, view_of, with_granted}
 use Rattle.fk_spec.specs.Function.{Following, is_absent, place_of}
 use Rattle.fk_spec.specs.Next.{IsHistory}
 use Rattle.fk_law.specs.Due.{IsDue, Refuses}
 use Rattle.fk_law.proofs.Due.{due}
-use Rattle.fk_law.proofs.Leaving.{commit_is}
+use Rattle.fk_law.proofs.Lows.{edit_low, last_low, pushes_grow}
 use Rattle.fk_law.proofs.Moving.{ahead}
 use Rattle.fk_law.proofs.Outcomes.{outcome_is_of_a_settled}
-use Rattle.fk_law.proofs.Pushing.{push_bound}
 use Rattle.fk_law.proofs.Sending.{origin_stays}
 use Rattle.fk_law.proofs.Settled.{reached, settled_were_sent, settles_the_next}
 use Rattle.fk_law.proofs.Standing.{OnStanding, standing_step}
 use Rattle.fk_law.proofs.Starting.{follower_task, place_bound}
-use Rattle.fk_law.proofs.Numbering.{AllAtMost}
 use Rattle.fk_base.proofs.Logic.{and_left, and_right, by_test}
-use Rattle.fk_law.proofs.Closes.{commits_were_pushed}
 
 -- What grows. -------------------------------------------------------------------------------------------
 
 clock_grows : (o : Op) (n : ℕ) → n ≤ clock_after o n
 clock_grows (op.Clock m) n = omega arith
 clock_grows o n = omega arith
-
-pushes_grow : (e : Entry) (h : List Entry) → pushes_of h ≤ pushes_of (e ∷ h)
-pushes_grow e h = grow (pushed_in 0 e.op) (pushes_of h)
-  where
-    grow : (o : Option Push) (n : ℕ) → n ≤ count_push o n
-    grow None n = omega arith
-    grow (Some x) n = omega arith
 
 starts_grow : (e : Entry) (h : List Entry) → starts_of h ≤ starts_of (e ∷ h)
 starts_grow e h = grow (started_in e.op) (starts_of h)
@@ -60,28 +48,6 @@ starts_grow e h = grow (started_in e.op) (starts_of h)
     grow (Some x) n = omega arith
 
 -- Commits are pushes. -----------------------------------------------------------------------------------
-
-commit_low : (p : Plan) (n t : ℕ) (h : List Entry) → IsHistory p h → IsDue p h (op.CommitOk n t) → t ≤ pushes_of h
-commit_low p n t h l d = let v = (commit_is p n t h l d).live.is_of in (push_bound p t h v.push l v.pushed).2
-
-commits_step : (p : Plan) (h : List Entry) (o : Op) → IsHistory p h → IsDue p h o → AllAtMost (pushes_of h) (committed_of p h) → AllAtMost (pushes_of h) (committed_in p h o (committed_of p h))
-commits_step p h (op.CommitOk n t) l d i = subst (λ y. AllAtMost (pushes_of h) (with_filled (committed_of p h) t y)) (sym (commit_is p n t h l d).is) (commit_low p n t h l d, i)
-commits_step p h o l d i = i
-
-editor_low : (n : ℕ) (path : PathNames) (done : List Applied) → AllAtMost n done → last_editor path done ≤ n
-editor_low n path [] i = omega arith
-editor_low n path (a ∷ done) i = by_test (has_path path (edited_paths a)) (λ b. cond b a.tx (last_editor path done) ≤ n) (λ _. i.0) (λ _. editor_low n path done i.1)
-
-edit_low : (p : Plan) (path : PathNames) (h : List Entry) → IsHistory p h → last_edit p path h ≤ pushes_of h
-edit_low p path h l = editor_low (pushes_of h) path (committed_of p h) (commits_were_pushed p h l)
-
-last_step : (p : Plan) (c : ℕ) (h : List Entry) (o : Op) → IsHistory p h → IsDue p h o → last_of_session c h ≤ pushes_of h → last_for c h o (last_of_session c h) ≤ pushes_of h
-last_step p c h (op.CommitOk n t) l d i = by_test (is_session c (session_of_push t h)) (λ b. cond b t (last_of_session c h) ≤ pushes_of h) (λ _. commit_low p n t h l d) (λ _. i)
-last_step p c h o l d i = i
-
-last_low : (p : Plan) (c : ℕ) (h : List Entry) → IsHistory p h → last_of_session c h ≤ pushes_of h
-last_low p c [] l = omega arith
-last_low p c (e ∷ h) l = let a = pushes_grow e h in let b = last_step p c h e.op l.0 (due p e h l) (last_low p c h l.0) in omega (arith, a, b)
 
 -- The numbers of a follower. ----------------------------------------------------------------------------
 

@@ -31,6 +31,7 @@ use Rattle.fk_agree.specs.Letters.{LeavesLane}
 use Rattle.fk_agree.proofs.Posting.{letter_is_pushed, post_stays}
 use Rattle.fk_agree.proofs.Serving.{acked_post, other_number}
 use Rattle.fk_agree.proofs.Carried.{message_at}
+use Rattle.fk_agree.proofs.Replying.{replied_elsewhere}
 
 -- A push. -----------------------------------------------------------------------------------------------
 
@@ -57,12 +58,6 @@ its_reply : (p : Plan) (n c k : ℕ) (h : List Entry) → task_of n h ≡ Some (
 its_reply p n c k h t =
     ap (λ b. option_map (tell_text version.Two) (option_and_then (tell_of p h) (if b then reply_message (is_evict (request_of p c k h)) k (outcome_of c k h) (task_of n h) else None))) (eq-eqb c c refl)
     ∙ (ap (λ x. option_map (tell_text version.Two) (option_and_then (tell_of p h) (reply_message (is_evict (request_of p c k h)) k (outcome_of c k h) x))) t ∙ ap (option_map (tell_text version.Two)) (told_same p k h (outcome_of c k h)))
-
-replied_elsewhere : (p : Plan) (n c k : ℕ) (h : List Entry) (q : Lane) → same_lane q (lane.Inbox c) ≡ false → LeavesLane p q h (op.Reply n c k)
-replied_elsewhere p n c k h lane.Leader e = record { none = refl; kept = refl }
-replied_elsewhere p n c k h lane.Watch e = record { none = refl; kept = refl }
-replied_elsewhere p n c k h (lane.Session d) e = record { none = refl; kept = refl }
-replied_elsewhere p n c k h (lane.Inbox d) e = record { none = ap (λ b. option_map (tell_text version.Two) (option_and_then (tell_of p h) (if b then reply_message (is_evict (request_of p d k h)) k (outcome_of d k h) (task_of n h) else None))) (other_number c d e); kept = refl }
 
 nothing_told : (p : Plan) (n c k : ℕ) (h : List Entry) (q : Lane) → letter_in p (lane.Inbox c) h (op.Reply n c k) ≡ None → LeavesLane p q h (op.Reply n c k)
 nothing_told p n c k h lane.Leader e = record { none = refl; kept = refl }

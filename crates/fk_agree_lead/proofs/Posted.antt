@@ -37,11 +37,12 @@ use Rattle.fk_spec.specs.Watches.{swept_by}
 use Rattle.fk_spec.specs.Next.{IsHistory}
 use Rattle.fk_agree.specs.Letters.{LeavesLane}
 use Rattle.fk_agree.proofs.Posting.{letter_is_pushed}
-use Rattle.fk_agree.proofs.Serving.{LeavesPost, acked_post, other_number, post_left}
+use Rattle.fk_agree.proofs.Serving.{LeavesPost, acked_post, post_left}
 use Rattle.fk_agree_lead.specs.Leaders.{IsLeader}
 use Rattle.fk_agree_lead.proofs.Making.{may}
 use Rattle.fk_agree_lead.proofs.Pushed.{its_push, lead_task}
 use Rattle.fk_agree_lead.proofs.Requested.{message_tells_its_request}
+use Rattle.fk_agree.proofs.Replying.{replied_elsewhere}
 
 -- A note. -----------------------------------------------------------------------------------------------
 
@@ -62,14 +63,6 @@ noted_post p n k faults e h m i g = letter_is_pushed p faults lane.Watch (note_t
 
 -- A reply. ----------------------------------------------------------------------------------------------
 
--- a reply leaves all lanes but its client's inbox
-replied_elsewhere : (p : Plan) (n c k : ℕ) (h : List Entry) (q : Lane) → same_lane q (lane.Inbox c) ≡ false → LeavesLane p q h (op.Reply n c k)
-replied_elsewhere p n c k h lane.Leader e = record { none = refl; kept = refl }
-replied_elsewhere p n c k h lane.Watch e = record { none = refl; kept = refl }
-replied_elsewhere p n c k h (lane.Session d) e = record { none = refl; kept = refl }
-replied_elsewhere p n c k h (lane.Inbox d) e = record {
-  none = ap (λ b. option_map (tell_text version.Two) (option_and_then (tell_of p h) (cond b (reply_message (is_evict (request_of p d k h)) k (outcome_of d k h) (task_of n h)) None))) (other_number c d e);
-  kept = refl;
 }
 
 -- an eviction is one in the message and in the rules

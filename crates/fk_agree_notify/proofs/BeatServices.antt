@@ -48,10 +48,6 @@ use Rattle.fk_base.proofs.Logic.{by_test}
 
 -- What its operations leave. ----------------------------------------------------------------------------
 
--- an operation that changes neither a record nor a lane
-abbrev Looks : Op → Type 0
-Looks o = LeavesRecords o × LeavesPost o
-
 -- one that changes neither the user storage nor the table of watches
 abbrev Spares : Op → Type 0
 Spares o = LeavesStore o × LeavesWatches o

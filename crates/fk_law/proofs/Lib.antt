@@ -5,6 +5,7 @@ pub mod Clients
 pub mod Closes
 pub mod Closing
 pub mod Committing
+pub mod Crashing
 pub mod Deciding
 pub mod Draining
 pub mod Due
@@ -21,6 +22,7 @@ pub mod Living
 pub mod Locking
 pub mod Losing
 pub mod Losses
+pub mod Lows
 pub mod Moving
 pub mod Numbered
 pub mod Numbering

@@ -73,10 +73,6 @@ settled_so : (p : Plan) (c k : ℕ) (o : Outcome) (ss : List Sent) → AllSo p c
 settled_so p c k o [] i = tt
 settled_so p c k o (s ∷ ss) i = cond_both ((s.k == k) && is_open s.result) (record s { result = Settled o } ∷ ss) (s ∷ with_told by_result k (Settled o) ss) (AllSo p c) (λ e. (open_fits (is_unfit (asked p c s.command)) s.result (and_right (s.k == k) (is_open s.result) e) i.0, i.1)) (λ _. (i.0, settled_so p c k o ss i.1))
 
-kept_so : (p : Plan) (c k : ℕ) (o : Option Outcome) (x : Client Sent) → AllSo p c x.sent → AllSo p c (settle_with by_result k (settled_as o) x).sent
-kept_so p c k None x i = i
-kept_so p c k (Some o) x i = settled_so p c k o x.sent i
-
 append_so : (p : Plan) (c : ℕ) (ss : List Sent) (s : Sent) → FitsSo (is_unfit (asked p c s.command)) s.result → AllSo p c ss → AllSo p c (ss ++ s ∷ [])
 append_so p c [] s j i = (j, tt)
 append_so p c (x ∷ ss) s j i = (i.0, append_so p c ss s j i.1)
@@ -88,14 +84,6 @@ local_so false seen = refl
 unready_so : (p : Plan) (c : ℕ) (ss : List Sent) → AllSo p c ss → AllSo p c (without_ready by_result ss)
 unready_so p c [] i = tt
 unready_so p c (s ∷ ss) i = cond_both (is_ready s.result) (without_ready by_result ss) (s ∷ ss) (AllSo p c) (λ _. unready_so p c ss i.1) (λ _. i)
-
-looked_for_so : (p : Plan) (c : ℕ) (ss : List Sent) (x : Client Sent) → x.sent ≡ ss → AllSo p c ss → AllSo p c (looked_for by_result (asks_in p c) ss x).sent
-looked_for_so p c [] x e i = subst (AllSo p c) (sym e) tt
-looked_for_so p c (s ∷ ss) x e i = closing (is_close (asked p c s.command))
-  where
-    closing : (b : Bool) → AllSo p c (close_if b (record x { sent = ss })).sent
-    closing true = i.1
-    closing false = i.1
 
 -- Lines. -----------------------------------------------------------------------------------------------
 

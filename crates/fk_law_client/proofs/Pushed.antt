@@ -1,6 +1,6 @@
 -- The number of a refusal was pushed.
-use Rattle.std.specs.Prelude.{◌==◌, ◌||◌, max}
-use Rattle.std.proofs.Common.{◌≡◌, ℕ, zero, suc, ◌+◌, ◌≤◌, ◌++◌, Bool, true, false, List, [], ◌∷◌, refl, sym, subst, arith, Option, Some, None}
+use Rattle.std.specs.Prelude.{◌==◌, max}
+use Rattle.std.proofs.Common.{◌≡◌, ℕ, ◌+◌, ◌≤◌, ◌++◌, Bool, true, false, List, [], ◌∷◌, subst, arith, Option, Some, None}
 use Rattle.std.proofs.lemmas.Bool.{cond_both}
 use Rattle.std.proofs.lemmas.Bool.Decides.{nat_tests}
 use Rattle.fk_base.specs.Path.{PathNames}
@@ -17,10 +17,10 @@ use Rattle.fk_print.specs.declared.op.Op.{Op}
 use Rattle.fk_print.specs.declared.op.Op.TheVariants as op
 use Rattle.fk_spec.specs.Plan.{Plan, item_after}
 use Rattle.fk_spec.specs.Shown.{seen_by}
-use Rattle.fk_spec.specs.Start.{Origin, Pushed, when, task_of, probes_session, pushes_of, pushed_of, count_push, pushed_in, sends_of, sent_in, origin_of, origin_here, seen_from, seen_with}
+use Rattle.fk_spec.specs.Start.{Origin, Pushed, when, task_of, probes_session, pushes_of, count_push, pushed_in, sends_of, sent_in, origin_of, origin_here, seen_from, seen_with}
 use Rattle.fk_spec.specs.Start as start
-use Rattle.fk_spec.specs.Settling.{commits, is_committed, last_of_session, mark_of, mark_in}
-use Rattle.fk_spec.specs.Stored.{committed_of, committed_in, with_filled, filled_after, last_editor, last_edit, owned_after}
+use Rattle.fk_spec.specs.Settling.{last_of_session, mark_of, mark_in}
+use Rattle.fk_spec.specs.Stored.{committed_of, with_filled, filled_after, last_editor, last_edit, owned_after}
 use Rattle.fk_spec.specs.Follower.{Follower, Granted, view_of, greatest_last, decided, next_stage, to_lock, to_begin, with_granted, next_with}
 use Rattle.fk_spec.specs.Follower as follower
 use Rattle.fk_spec.specs.Leader as leader
@@ -29,15 +29,15 @@ use Rattle.fk_spec.specs.Next.{IsHistory}
 use Rattle.fk_law.specs.Due.{IsDue, Refuses}
 use Rattle.fk_law.proofs.Due.{due}
 use Rattle.fk_law.proofs.Growing.{numbers_never_fall}
-use Rattle.fk_law.proofs.Knowing.{last_is_committed}
 use Rattle.fk_law.proofs.Leading.{leader_at_or_below_the_head}
-use Rattle.fk_law.proofs.Rising.{committed_low, pushed_before, history_before}
+use Rattle.fk_law.proofs.Rising.{history_before}
 use Rattle.fk_law.proofs.Standing.{OnStanding, standing_step}
 use Rattle.fk_law.proofs.Starting.{leader_task}
 use Rattle.fk_law_watch.specs.FirstNumbers.{ReadsAreReads}
 use Rattle.fk_law_client.specs.Refused.{MarkWasPushed, RefusalNumberWasPushed, RefusalHoldsInLongerHistories}
 use Rattle.fk_law_client.proofs.Seen.{max_up, seen_published}
 use Rattle.fk_law.proofs.Lasting.{refusal_holds_for_ever}
+use Rattle.fk_law.proofs.Lows.{edit_low, last_low}
 
 grown : (e : Entry) (h : List Entry) (n : ℕ) → n ≤ pushes_of h → n ≤ pushes_of (e ∷ h)
 grown e h n a = let g = (numbers_never_fall h (e ∷ [])).pushes in omega (arith, a, g)
@@ -77,24 +77,6 @@ seen_with_pushed p c k (e ∷ h) v l =
 pub filled_up : (path : PathNames) (t m : ℕ) (done : List Applied) (x : Option Pushed) → t ≤ m → last_editor path done ≤ m → last_editor path (with_filled done t x) ≤ m
 filled_up path t m done None a b = b
 filled_up path t m done (Some y) a b = cond_both (has_path path (edited_paths (filled_after done t y))) t (last_editor path done) (λ z. z ≤ m) (λ _. a) (λ _. b)
-
-commits_it : (n t : ℕ) (b : Bool) → (commits t (op.CommitOk n t) || b) ≡ true
-commits_it n t b = grind (arith, nat_tests)
-
-edit_step : (p : Plan) (path : PathNames) (h : List Entry) (o : Op) → IsHistory p h → IsDue p h o → last_editor path (committed_of p h) ≤ pushes_of h → last_editor path (committed_in p h o (committed_of p h)) ≤ pushes_of h
-edit_step p path h (op.CommitOk n t) l d a = filled_up path t (pushes_of h) (committed_of p h) (pushed_of p t h) (pushed_before p t h (op.CommitOk n t) l d (commits_it n t (is_committed t h))) a
-edit_step p path h o l d a = a
-
-edit_pushed : (p : Plan) (path : PathNames) (h : List Entry) → IsHistory p h → last_edit p path h ≤ pushes_of h
-edit_pushed p path [] l = omega arith
-edit_pushed p path (e ∷ h) l = grown e h (last_edit p path (e ∷ h)) (edit_step p path h e.op l.0 (due p e h l) (edit_pushed p path h l.0))
-
-last_pushed : (p : Plan) (c : ℕ) (h : List Entry) → IsHistory p h → last_of_session c h ≤ pushes_of h
-last_pushed p c h l = by_number (last_of_session c h) refl
-  where
-    by_number : (n : ℕ) → last_of_session c h ≡ n → n ≤ pushes_of h
-    by_number zero e = omega arith
-    by_number (suc n) e = subst (λ z. z ≤ pushes_of h) e (committed_low p (last_of_session c h) h l (last_is_committed p c h l (subst (λ z. 1 ≤ z) (sym e) (omega arith))))
 
 -- Followers. -------------------------------------------------------------------------------------------
 
@@ -146,7 +128,7 @@ knows_step p n e h v l i =
     standing_step p n h e.op (place_of p n h) (KnowsUpTo (pushes_of (e ∷ h)))
     (λ f c _. knows_more (pushes_of h) (pushes_of (e ∷ h)) f more (at f c))
     (λ c k _. (omega arith, omega arith, tt))
-    (λ f r c a q. knows_more (pushes_of h) (pushes_of (e ∷ h)) (next_with p h r e.op f) more (moves_up p (pushes_of h) h r e.op f (seen_with_pushed p f.session f.k h v l.0) (last_pushed p f.session h l.0) (λ path. edit_pushed p path h l.0) (at f c)))
+    (λ f r c a q. knows_more (pushes_of h) (pushes_of (e ∷ h)) (next_with p h r e.op f) more (moves_up p (pushes_of h) h r e.op f (seen_with_pushed p f.session f.k h v l.0) (last_low p f.session h l.0) (λ path. edit_low p path h l.0) (at f c)))
   where
     more : pushes_of h ≤ pushes_of (e ∷ h)
     more = (numbers_never_fall h (e ∷ [])).pushes

@@ -82,9 +82,6 @@ keeps_told i k r (s ∷ ss) = by_test ((s.k == k) && is_open s.result) (keeps_to
 abbrev IsAccounted : ℕ → Bool → Client Sent → Type 0
 IsAccounted i answered x = i ≤ x.begun → (answered || keeps_command i x.sent) ≡ true
 
-same_kept : (own old kept more : Bool) → kept ≡ more → (old || kept) ≡ true → ((own || old) || more) ≡ true
-same_kept own old kept more e f = more_answered own old more (subst (λ z. (old || z) ≡ true) e f)
-
 -- the next command is begun and kept
 joins : (i j : ℕ) (old : Bool) (s : Sent) (x : Client Sent) → s.command ≡ j → j ≡ x.begun + 1 → IsAccounted i old x → i ≤ j → (old || keeps_command i (x.sent ++ s ∷ [])) ≡ true
 joins i j old s x e n f b = subst (λ z. (old || z) ≡ true) (sym (keeps_appended i s x.sent)) (by_old (nat_le i x.begun) refl)

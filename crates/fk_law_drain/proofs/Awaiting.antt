@@ -273,10 +273,6 @@ another_told p c j k h w v l a e = by_test (j == k) refl
     by_test false f = refl
     by_test true f = let g = eqb-true j k f in absurd (false≢true (sym (told_by p c k h w v l a) ∙ subst (λ z. awaits_outcome k (with_told by_result z (Settled w) (client_of p c h).sent) ≡ true) g e))
 
--- what a client awaits after an operation, before it prints what is ready, is told where it was told before
-abbrev StaysTold : Plan → ℕ → ℕ → Entry → List Entry → Type 0
-StaysTold p c k e h = awaits_outcome k (kept_after p c h e.op) ≡ true → is_outcome_told k (inbox_of p c h) ≡ true → is_outcome_told k (inbox_of p c (e ∷ h)) ≡ true
-
 kept_told : (p : Plan) (c k d j : ℕ) (e : Entry) (h : List Entry) (w : Outcome) (ms : List Message) → HasFittingVerbs p → IsHistory p h → 1 ≤ k → takes c e.op ≡ true → inbox_of p c h ≡ Kept j w ∷ ms → awaits_outcome k (settle_with by_result j (settled_as (kept_outcome (sight_of p c h).head)) (client_of p c h)).sent ≡ true → is_outcome_told k (inbox_of p c h) ≡ true → is_outcome_told k (inbox_of p c (e ∷ h)) ≡ true
 kept_told p c k d j e h w ms v l a t q i f =
     told_taken p c k e h (Kept j w) ms t q (another_told p c j k h w v l a (subst (λ z. awaits_outcome k (settle_with by_result j (settled_as (kept_outcome (first_message z))) (client_of p c h)).sent ≡ true) q i)) f

@@ -6,7 +6,6 @@ use Rattle.std.proofs.lemmas.Bool.Decides.{nat_tests}
 use Rattle.std.proofs.lemmas.Option.{same_Some, none-some}
 use Rattle.fk_base.specs.Path.{PathNames}
 use Rattle.fk_tree.specs.Sorted.{has_path}
-use Rattle.fk_tree.specs.declared.request.Request.{Request}
 use Rattle.fk_print.specs.declared.entry.Entry.{Entry}
 use Rattle.fk_print.specs.declared.event.Event.{Event}
 use Rattle.fk_print.specs.declared.event.Event.TheVariants as event
@@ -14,14 +13,13 @@ use Rattle.fk_print.specs.declared.op.Op.{Op}
 use Rattle.fk_print.specs.declared.op.Op.TheVariants as op
 use Rattle.fk_spec.specs.Plan.{Plan}
 use Rattle.fk_spec.specs.Start as start
-use Rattle.fk_spec.specs.Start.{Follows, Notifies, pushes_of, sends_of, Task, clock_after, clock_of, count_start, request_of, started_in, starts_of}
+use Rattle.fk_spec.specs.Start.{Follows, Notifies, pushes_of, sends_of, Task, clock_after, clock_of, count_start, started_in, starts_of}
 use Rattle.fk_spec.specs.Locks.{Grant, grant_in, granted, has_released, last_grant, may_grant}
 use Rattle.fk_spec.specs.Settling.{settled_in}
 use Rattle.fk_spec.specs.Lanes.{follows_session, head_among, leader_head, leads, notes_of, notifies, removed_by, session_head, watch_head}
-use Rattle.fk_spec.specs.Follower.{next_for}
 use Rattle.fk_spec.specs.Teller.{Note, note_of}
 use Rattle.fk_spec.specs.Client.{client_in, client_op}
-use Rattle.fk_spec.specs.Function.{Place, Absent, Following, Leading, Telling, Beating, actor, follow_on, in_flight, in_flight_to, is_absent, moved, place_by, place_of, placed, started_at, telling}
+use Rattle.fk_spec.specs.Function.{Place, Absent, Following, Leading, Telling, Beating, actor, in_flight, in_flight_to, is_absent, moved, place_by, place_of, placed, started_at, telling}
 use Rattle.fk_spec.specs.Schedule.{is_idle, Plays, crashes, drain_begin}
 use Rattle.fk_spec.specs.Next.{IsHistory, crash_op, follow_op, lead_op, next_op, tell_op}
 use Rattle.fk_law.proofs.Locking.{lock_names_a_granted_path, locks_are_followers}
@@ -34,6 +32,7 @@ use Rattle.fk_law_drain.proofs.Stepping.{IsFree, NoGrant, NotAck, may_stay, not_
 use Rattle.fk_law_drain.proofs.Turning.{client_turn, turn_is_own}
 use Rattle.fk_law_drain.proofs.Unhindered.{GoesOn, function_goes}
 use Rattle.fk_base.proofs.Logic.{itself}
+use Rattle.fk_law.proofs.Crashing.{crashed}
 
 -- Starts. ----------------------------------------------------------------------------------------------
 
@@ -207,17 +206,6 @@ flies_to p (suc m) n h a b f = by_number (λ c. flies_to p m n h a c f) (n == su
 record WillBegin (p : Plan) (ns : List ℕ) (m : ℕ) (h : List Entry) : Type 0 where
   pub flies : (n : ℕ) → is_absent (place_of p n h) ≡ false → IsIn n ns
   pub ran_out : (path : PathNames) (g : Grant) → last_grant path h ≡ Some g → g.moment + p.lock < m
-
-crashed : (p : Plan) (h : List Entry) (n : ℕ) (x : Place) → moved p h (op.Crash n) x ≡ Absent
-crashed p h n Absent = refl
-crashed p h n (Following f) = by_request (request_of p f.session f.k h)
-  where
-    by_request : (r : Option Request) → (let g = next_for p h r (op.Crash n) f in follow_on g.stage g) ≡ Absent
-    by_request None = refl
-    by_request (Some r) = refl
-crashed p h n (Leading t s) = refl
-crashed p h n (Telling w t s) = refl
-crashed p h n (Beating c s) = refl
 
 crash_begins : (p : Plan) (n m : ℕ) (ns : List ℕ) (e : Entry) (h : List Entry) → e.op ≡ crash_op n (place_of p n h) → WillBegin p (n ∷ ns) m h → WillBegin p ns m (e ∷ h)
 crash_begins p n m ns e h q w = by_absent (is_absent (place_of p n h)) refl

@@ -221,10 +221,6 @@ lead_is : (t : ℕ) (s : leader.Stage) → 1 ≤ leader_class s → lead_on t s 
 lead_is t leader.Ended a = absurd (omega (arith, a))
 lead_is t s a = refl
 
--- what a function that isn't a follower leaves of the session lanes
-not_followed : (n m : ℕ) (h : List Entry) (t : Task) (c r : ℕ) → m ≡ n → task_of n h ≡ Some t → follows_session c (Some t) ≡ false → removed_in (follows_session c) h (op.AckOk m) r ≡ r
-not_followed n m h t c r e a b = ap (λ z. if z then r + 1 else r) (ap (λ z. follows_session c (task_of z h)) e ∙ (ap (follows_session c) a ∙ b))
-
 removed_elsewhere : (w : Option Task → Bool) (n : ℕ) (h : List Entry) (t : Task) (o : Op) (r : ℕ) → actor o ≡ Some n → task_of n h ≡ Some t → w (Some t) ≡ false → removed_in w h o r ≡ r
 removed_elsewhere w n h t (op.AckOk m) r a b c = ap (λ z. if z then r + 1 else r) (ap (λ z. w (task_of z h)) (its_actor m n a) ∙ (ap w b ∙ c))
 removed_elsewhere w n h t o r a b c = refl

@@ -14,7 +14,7 @@ use Rattle.fk_spec.specs.Start.{or_else, when}
 use Rattle.fk_spec.specs.Lanes as lanes
 use Rattle.fk_spec.specs.Lanes.{Message, inbox_after, inbox_of, posted_in, takes, with_posted, without_first}
 use Rattle.fk_spec.specs.Sight.{number_or_next, sight_of}
-use Rattle.fk_spec.specs.Watches.{Firing, Watch, firing_in, firing_of, given_of, has_id, published_epoch, set_number, set_watches}
+use Rattle.fk_spec.specs.Watches.{Firing, Watch, firing_of, given_of, has_id, published_epoch, set_number, set_watches}
 use Rattle.fk_spec.specs.Client.{acted_by, client_in, client_of, contains, first_held, by_result, number_read, Client, Reading, Sent, target_of}
 use Rattle.fk_spec.specs.Next.{IsHistory}
 use Rattle.fk_spec.specs.WatchNumbers.{watch_with}
@@ -255,10 +255,6 @@ look_passes_no_held_watch p c i mark id e h f l q g k = by_mark (nat_le f.tx (ma
 
 sweep_beyond : (p : Plan) (t : ℕ) (h : List Entry) (o : Op) → IsDue p h o → sweeps t o ≡ true → swept_of h < t
 sweep_beyond p t h o d e = grind (arith, nat_tests)
-
-no_sweep : (p : Plan) (id : ℕ) (h : List Entry) (o : Op) (c : ℕ) → client_in o ≡ Some c → firing_in p id h o ≡ None
-no_sweep p id h (op.SweepOk n t k) c q = absurd (none-some c q)
-no_sweep p id h o c q = refl
 
 -- a firing is old, or beyond the mark
 pub fired_before : (p : Plan) (id : ℕ) (e : Entry) (h : List Entry) (f : Firing) → IsHistory p (e ∷ h) → firing_of p id (e ∷ h) ≡ Some f → (firing_of p id h ≡ Some f) ⊎ (mark_of h < f.tx)

@@ -4,8 +4,8 @@ use Rattle.std.specs.Prelude.{is_some, not}
 use Rattle.std.specs.FinMap.{get}
 use Rattle.std.proofs.lemmas.Bool.{false≢true}
 use Rattle.fk_base.specs.Path.{Name, PathNames, parent, is_root}
-use Rattle.fk_tree.specs.Sorted.{has_name, add_name, drop_name}
-use Rattle.fk_tree.specs.Tree.{Bare, Nodes, children, with_names, map_some, node_view, up}
+use Rattle.fk_tree.specs.Sorted.{has_name}
+use Rattle.fk_tree.specs.Tree.{Bare, Nodes, children, with_names, map_some, node_view}
 use Rattle.fk_tree.specs.View.{View}
 use Rattle.fk_tree.specs.Edit.{edited, owner_for, create_edits, set_edits, delete_edits, part_edits, parts_edits, effects_of}
 use Rattle.fk_tree.specs.Fill.{final_path, made_of, fill_name, fill_made, fill_gone, fill_part, fill_parts, after_part}
@@ -29,13 +29,6 @@ use Rattle.fk_law_tree.proofs.Passing.{first_passes, others_pass, CreatePasses, 
 use Rattle.fk_law_tree.proofs.Whole.{is_free, IsWhole, has_parents, set_keeps, create_keeps, IsLeaf, AllLeaves, delete_keeps, deletes_keep, owned_leaves}
 
 -- A NODE WITHOUT ITS TIMES
-
--- a child came, and a child went
-abbrev came : Name → ℕ → Node → Node
-came x tx n = record n { cversion = up n.cversion; made = up n.made; pzxid = tx; names = add_name x n.names }
-
-abbrev went : Name → ℕ → Node → Node
-went x tx n = record n { cversion = up n.cversion; pzxid = tx; names = drop_name x n.names }
 
 -- the nodes of a view are those of a tree but for their times
 abbrev IsLike : View → Nodes → Type 0

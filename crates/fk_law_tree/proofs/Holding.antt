@@ -7,7 +7,7 @@ use Rattle.fk_tree.specs.Sorted.{has_path, in_path_order}
 use Rattle.fk_tree.specs.View.{View}
 use Rattle.fk_tree.specs.Edit.{of_parent, owner_for, effects, effects_of, create_edits, delete_edits, deletes_edits, part_edits, parts_edits}
 use Rattle.fk_tree.specs.Fill.{final_path, made_of, fill_name, fill_made, fill_part, fill_parts, after_part}
-use Rattle.fk_tree.specs.Check.{check_part, check_open}
+use Rattle.fk_tree.specs.Check.{check_open}
 use Rattle.fk_tree.specs.Touch.{edit_paths, edited_paths}
 use Rattle.fk_tree.specs.Locks.{with_parent, with_parents, numbered_path, numbered_paths, part_lock_paths, parts_lock_paths, lock_paths}
 use Rattle.fk_tree.specs.declared.applied.Applied.{Applied}
@@ -43,9 +43,6 @@ within_left ps qs rs f p h = has_append p qs rs ∙ or_left (has_path p qs) (has
 
 pub within_right : (ps qs rs : List PathNames) → Within ps rs → Within ps (qs ++ rs)
 within_right ps qs rs f p h = has_append p qs rs ∙ or_right (has_path p qs) (has_path p rs) (f p h)
-
-within_ordered : (ps qs : List PathNames) → Within ps qs → Within (in_path_order ps) (in_path_order qs)
-within_ordered ps qs f p h = ordered_has qs p ∙ f p (sym (ordered_has ps p) ∙ h)
 
 into_order : (ps qs : List PathNames) → Within ps qs → Within ps (in_path_order qs)
 into_order ps qs f p h = ordered_has qs p ∙ f p h
@@ -205,8 +202,6 @@ reads_are_locked v owned session (request.Close evict) = λ q h. absurd (false�
 reads_are_locked v owned session (request.Multi xs) = within_left (parts_reads v session xs) (in_path_order (parts_lock_paths xs)) [] (into_order (parts_reads v session xs) (parts_lock_paths xs) (parts_reads_locked v session xs))
 
 -- READS ARE EDITED
-part_read_edited : (v : View) (session : ℕ) (x : Part) → check_part v x ≡ None → Within (part_reads v x) (edit_paths (part_edits session x (fill_part v x)))
-part_read_edited v session x e q h = part_pair q v session x ∙ part_reads_locked v x q h
 
 parts_read_edited : (v : View) (session : ℕ) (xs : List Part) → Within (parts_reads v session xs) (edit_paths (parts_edits session xs (fill_parts v session xs)))
 parts_read_edited v session xs q h = parts_pairs q v session xs ∙ parts_reads_locked v session xs q h

@@ -18,7 +18,7 @@ use Rattle.fk_spec.specs.Leader as leader
 use Rattle.fk_spec.specs.Teller.{Note, note_of, note_in, to_tell, next_teller}
 use Rattle.fk_spec.specs.Teller as teller
 use Rattle.fk_spec.specs.Heartbeat as heartbeat
-use Rattle.fk_spec.specs.Function.{Place, Absent, Following, Leading, Telling, Beating, place_of, place_by, placed, telling, moved, actor, lead_on, tell_on, beat_on}
+use Rattle.fk_spec.specs.Function.{Place, Absent, Following, Leading, Telling, Beating, place_of, place_by, placed, telling, moved, actor, tell_on, beat_on}
 use Rattle.fk_spec.specs.Next.{IsHistory}
 use Rattle.fk_law.specs.Due.{IsDue}
 use Rattle.fk_law.specs.LeaderLane.{sweeps, is_swept}
@@ -173,9 +173,6 @@ note_published p w (y ∷ h) x l e = published_step p w y h y.op x refl l (due p
 abbrev pub OnTeller : (ℕ → ℕ → teller.Stage → Type 0) → Place → Type 0
 OnTeller Q (Telling w t s) = Q w t s
 OnTeller Q _ = Unit {0}
-
-lead_no_teller : (Q : ℕ → ℕ → teller.Stage → Type 0) (t : ℕ) (s : leader.Stage) → OnTeller Q (lead_on t s)
-lead_no_teller Q t s = grind arith
 
 beat_no_teller : (Q : ℕ → ℕ → teller.Stage → Type 0) (c : ℕ) (s : heartbeat.Stage) → OnTeller Q (beat_on c s)
 beat_no_teller Q c s = grind arith

@@ -2,7 +2,7 @@
 use Rattle.std.proofs.Common.{◌≡◌, ℕ, Bool, true, false, cond, List, [], ◌∷◌, ◌++◌, codes, Some, None, refl, sym, ◌∙◌, ap, arith, append_assoc}
 use Rattle.std.specs.Prelude.{nat_le}
 use Rattle.std.specs.List.{AllByRecursion, flat_map, onto_first, slice_split}
-use Rattle.std.specs.Option.{option_and_then, option_map}
+use Rattle.std.specs.Option.{option_and_then}
 use Rattle.std.proofs.lemmas.Bool.Decides.{nat_tests}
 use Rattle.std.proofs.lemmas.List.{append-nil}
 use Rattle.fk_base.specs.Path.{Name}
@@ -85,10 +85,6 @@ marked_back : (names : List Name) (r : Reading) (m : ℕ) (ws : List Text) (rest
 marked_back names r m ws rest mark bare shown =
     let words : words_in (m ∷ spaced ws) ≡ (m ∷ []) ∷ flat_map words_in ws = words_in-spaced (m ∷ []) ws ∙ rw bare refl in
     rw (marked_front m ws rest mark shown) (ap (λ ws. option_and_then (λ s. read_lines names s (lines_in rest)) (then_word ws (marked_line names r))) words)
-
--- what is read with public lines more
-abbrev with_lines : List Line → Reading → Reading
-with_lines ls r = record { history = r.history; entry = option_map (λ e. record { event = e.event; op = e.op; lines = e.lines ++ ls }) r.entry; event = r.event }
 
 public_back : (names : List Name) (h : List Entry) (e : Entry) (l : Line) (rest : Text) → are_client_names names ≡ true → IsLine names l
     → read_lines names (record { history = h; entry = Some e; event = None }) (lines_in (line_text names l ++ rest))
