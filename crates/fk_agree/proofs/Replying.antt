@@ -24,3 +24,4 @@ replied_elsewhere p n c k h (lane.Session d) e = record { none = refl; kept = re
 replied_elsewhere p n c k h (lane.Inbox d) e = record {
   none = ap (λ b. option_map (tell_text version.Two) (option_and_then (tell_of p h) (cond b (reply_message (is_evict (request_of p d k h)) k (outcome_of d k h) (task_of n h)) None))) (other_number c d e);
   kept = refl;
+}

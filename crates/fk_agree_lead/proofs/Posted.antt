@@ -63,8 +63,6 @@ noted_post p n k faults e h m i g = letter_is_pushed p faults lane.Watch (note_t
 
 -- A reply. ----------------------------------------------------------------------------------------------
 
-}
-
 -- an eviction is one in the message and in the rules
 pub evicts_the_same : (r : Request) → is_evict (Some r) ≡ lead.is_evict r
 evicts_the_same (request.Close evict) = refl
