@@ -6,6 +6,7 @@ use Rattle.fk_base.specs.Limits.{IsNumber}
 use Rattle.fk_wire.specs.Readable.{IsSentReadable}
 use Rattle.fk_print.specs.declared.entry.Entry.{Entry}
 use Rattle.fk_script.specs.PrintLaws.{IsMeant}
+use Rattle.fk_script.specs.Values.{most_clients, most_commands}
 use Rattle.fk_script.specs.declared.deployment.Deployment.{Deployment}
 use Rattle.fk_spec.specs.Plan.{asked, nth, or_empty, plan_of}
 use Rattle.fk_spec.specs.Start.{request_of, written}
@@ -28,8 +29,8 @@ RequestsAreReadable = (d : Deployment) (c k : ℕ) (h : List Entry) (r : Request
 
 -- Each client has at most 2,048 commands.
 abbrev pub CommandsAreFew : Type 0
-CommandsAreFew = (d : Deployment) (c : ℕ) → IsMeant d → length (or_empty (nth (plan_of d).asks c)) ≤ 2048
+CommandsAreFew = (d : Deployment) (c : ℕ) → IsMeant d → length (or_empty (nth (plan_of d).asks c)) ≤ most_commands
 
 -- There are at most 64 clients.
 abbrev pub ClientsAreFew : Type 0
-ClientsAreFew = (d : Deployment) → IsMeant d → length (plan_of d).asks ≤ 64
+ClientsAreFew = (d : Deployment) → IsMeant d → length (plan_of d).asks ≤ most_clients

@@ -5,7 +5,7 @@ use Rattle.fk_print.specs.declared.event.Event.{Event}
 use Rattle.fk_print.specs.declared.event.Event.TheVariants as event
 use Rattle.fk_script.specs.PrintLaws.{IsMeant}
 use Rattle.fk_script.specs.Printed.{block_names}
-use Rattle.fk_script.specs.Values.{most_event, most_time}
+use Rattle.fk_script.specs.Values.{most_event, most_time, most_turns}
 use Rattle.fk_script.specs.declared.deployment.Deployment.{Deployment}
 use Rattle.fk_script.specs.declared.deployment.Turn.{Turn}
 use Rattle.fk_script.specs.declared.deployment.Turn.TheVariants as turn
@@ -38,7 +38,7 @@ TurnsAreMoments = (d : Deployment) → IsMeant d → All (OfEvent IsEarly) d.tur
 
 -- There are at most 65,536 turns.
 abbrev pub TurnsAreFew : Type 0
-TurnsAreFew = (d : Deployment) → IsMeant d → length d.turns ≤ 65536
+TurnsAreFew = (d : Deployment) → IsMeant d → length d.turns ≤ most_turns
 
 -- A lock and a ping last at most as long as the grammar lets them.
 abbrev pub TimesAreShort : Type 0

@@ -10,7 +10,7 @@ use Rattle.fk_print.specs.declared.event.Event.TheVariants as event
 use Rattle.fk_script.specs.EventLines.{session}
 use Rattle.fk_script.specs.Lines.{Word, is, is_one_of, starts_with}
 use Rattle.fk_script.specs.Printed.{block_names}
-use Rattle.fk_script.specs.Values.{decoded, most_event, most_time, most_version}
+use Rattle.fk_script.specs.Values.{most_clients, most_commands, most_turns, decoded, most_event, most_time, most_version}
 use Rattle.fk_script.specs.declared.command.Command.{Command}
 use Rattle.fk_script.specs.declared.command.Command.TheVariants as command
 use Rattle.fk_script.specs.declared.command.PartCommand.{PartCommand}
@@ -106,14 +106,14 @@ IsTurn names turn.Drain = Unit {0}
 pub record AreClients (blocks : List Block) : Type 0 where
   pub named : list_all is_client_name (block_names blocks) ≡ true
   pub apart : are_new [] (block_names blocks) ≡ true
-  pub few : length (block_names blocks) ≤ 64
+  pub few : length (block_names blocks) ≤ most_clients
   pub commands : AllByRecursion IsBlock blocks
-  pub light : blocks_weight blocks ≤ 2048
+  pub light : blocks_weight blocks ≤ most_commands
 
 pub record IsSound (d : Deployment) : Type 0 where
   pub lock : d.config.lock ≤ most_time
   pub beat : d.config.beat ≤ most_time
   pub clients : AreClients d.clients
   pub turns : AllByRecursion (IsTurn (block_names d.clients)) d.turns
-  pub short : length d.turns ≤ 65536
+  pub short : length d.turns ≤ most_turns
   pub idle : d.scheduled ≡ false → d.turns ≡ []

@@ -7,7 +7,7 @@ use Rattle.fk_script.specs.declared.place.Kind.TheVariants as kind
 use Rattle.fk_script.specs.declared.why.Why.{Why}
 use Rattle.fk_script.specs.declared.why.Why.TheVariants as why
 use Rattle.fk_script.specs.Lines.{Word, Line, words, is_one_of, first, second}
-use Rattle.fk_script.specs.Values.{number, most_time}
+use Rattle.fk_script.specs.Values.{most_clients, most_commands, most_time, most_turns, number}
 use Rattle.fk_script.specs.CommandLines.{command_line, is_unknown, has_wrong_option, has_wrong_words, has_wrong_version, has_wrong_base64, weight}
 use Rattle.fk_script.specs.EventLines.{is_event_name, event_fits, number_word, client_word, is_bad_number, is_no_client}
 use Rattle.fk_script.specs.SoFar.{SoFar, kind_of}
@@ -72,9 +72,9 @@ is_bad_base64 k ws = false
 
 -- the 65th client, the first command with which more than 2,048 count, or the 65,537th turn
 abbrev pub is_too_many : SoFar → Kind → List Word → Bool
-is_too_many s kind.Client ws = nat_le 64 (length s.names)
-is_too_many s kind.Command ws = nat_lt 2048 (s.commands + weight (command_line ws))
-is_too_many s kind.Event ws = nat_le 65536 (length s.turns)
+is_too_many s kind.Client ws = nat_le most_clients (length s.names)
+is_too_many s kind.Command ws = nat_lt most_commands (s.commands + weight (command_line ws))
+is_too_many s kind.Event ws = nat_le most_turns (length s.turns)
 is_too_many s k ws = false
 
 -- the first reason that a line of this kind gives by its words, in this order

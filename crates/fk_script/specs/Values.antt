@@ -25,6 +25,16 @@ most_time = 1000000
 abbrev pub most_event : ℕ
 most_event = 1099511627775
 
+-- how many clients, commands and turns a file may have; a multi counts as its parts
+abbrev pub most_clients : ℕ
+most_clients = 64
+
+abbrev pub most_commands : ℕ
+most_commands = 2048
+
+abbrev pub most_turns : ℕ
+most_turns = 65536
+
 -- the greatest version
 abbrev pub most_version : ℕ
 most_version = 2147483647

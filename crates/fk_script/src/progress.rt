@@ -4,6 +4,7 @@ ghost use Rattle.std.specs.Option.{option_to_list};
 ghost use Rattle.fk_script.specs.declared.place.Kind.TheVariants as kind;
 ghost use Rattle.fk_script.specs.SoFar.{after, kind_of, meant, nothing, with_command};
 ghost use Rattle.fk_script.specs.Reasons.{reason};
+ghost use Rattle.fk_script.specs.Values.{most_clients};
 
 use crate::client_name::is_client_name;
 use crate::command::Command;
@@ -12,7 +13,7 @@ use crate::deployment::{Block, Deployment};
 use crate::event_words::{event_fits, has_bad_number, has_no_client, is_event_name, turn_of};
 use crate::lists::{Clients, Commands, Turns};
 use crate::place::{Kind, Place};
-use crate::values::{MOST_TIME, number};
+use crate::values::{MOST_CLIENTS, MOST_COMMANDS, MOST_TIME, MOST_TURNS, number};
 use crate::why::Why;
 use crate::words::{Word, first, has_name, second};
 use fk_base::{Config, Names, NoMemory, Text};
@@ -38,12 +39,13 @@ impl Model for Progress {
     ghost use Rattle.std.specs.Prelude.{◌≡◌, ◌≤◌, ◌||◌, ◌==◌, ◌++◌, true, length, is_some};
     ghost use Rattle.std.specs.Option.{option_to_list};
     ghost use Rattle.fk_script.specs.SoFar.{SoFar};
+    ghost use Rattle.fk_script.specs.Values.{most_clients, most_commands};
 
     ghost Value = { SoFar };
 
     ghost view = { λ p. record { place = p.place; lock = p.lock; beat = p.beat; names = p.names; clients = p.finished ++ option_to_list p.last; commands = p.commands; turns = p.turns } };
 
-    ghost invariant = { λ p. (length p.names ≤ 64) × (p.commands ≤ 2048) × ((is_some p.last || (length p.finished == 0)) ≡ true) };
+    ghost invariant = { λ p. (length p.names ≤ most_clients) × (p.commands ≤ most_commands) × ((is_some p.last || (length p.finished == 0)) ≡ true) };
 }
 
 impl Progress {
@@ -173,7 +175,7 @@ impl Progress {
         if has_name(self.names.as_slice(), &name) {
             return Ok(Some(Why::RepeatedName));
         }
-        if self.names.len() >= 64 {
+        if self.names.len() >= MOST_CLIENTS {
             return Ok(Some(Why::TooMany));
         }
         self.start_client(alloc, name.text())?;
@@ -182,7 +184,7 @@ impl Progress {
 
     /// A client more.
     fn start_client(&mut self, alloc: Global, name: &str) -> Result<(), NoMemory>
-        requires { length self.old.names < 64 }
+        requires { length self.old.names < most_clients }
         ensures { OnOk result (self.new ≡ record self.old { place = place.Client; names = self.old.names ++ name.now ∷ []; clients = self.old.clients ++ record { name = name.now; commands = [] } ∷ [] }) }
     {
         let block = Block {
@@ -222,7 +224,7 @@ impl Progress {
             return Ok(Some(Why::BadBase64));
         }
         let weight = line.weight();
-        if self.commands + weight > 2048 {
+        if self.commands + weight > MOST_COMMANDS {
             return Ok(Some(Why::TooMany));
         }
         self.add(line.command(alloc)?)?;
@@ -259,7 +261,7 @@ impl Progress {
         if has_no_client(self.names.as_slice(), words) {
             return Ok(Some(Why::UnknownClient));
         }
-        if self.turns.as_slice().len() >= 65_536 {
+        if self.turns.as_slice().len() >= MOST_TURNS {
             return Ok(Some(Why::TooMany));
         }
         self.turns.push(turn_of(self.names.as_slice(), words))?;

@@ -19,6 +19,13 @@ pub(crate) const MOST_EVENT: u64 = (1 << 40) - 1;
 /// The greatest version.
 const MOST_VERSION: u64 = 2_147_483_647;
 
+/// How many clients, commands and turns a file may have.
+pub(crate) const MOST_CLIENTS: usize = 64;
+
+pub(crate) const MOST_COMMANDS: usize = 2048;
+
+pub(crate) const MOST_TURNS: usize = 65_536;
+
 /// The number, where it is decimal without leading zeros and at most this one.
 pub(crate) fn number(most: u64, word: &Word<'_>) -> Option<u64>
     ensures exact { result ≡ number most word.now }

@@ -43,8 +43,14 @@ is_client p c = nat_le 1 c && nat_le c (length p.asks)
 abbrev pub data_limit : ℕ
 data_limit = 16384
 
+abbrev pub most_path : ℕ
+most_path = 512
+
+abbrev pub most_numbered_path : ℕ
+most_numbered_path = 502
+
 abbrev pub path_limit : Bool → ℕ
-path_limit seq = if seq then 502 else 512
+path_limit seq = if seq then most_numbered_path else most_path
 
 -- the path that a word means, where it means one and isn't too long
 abbrev pub path_within : ℕ → List ℕ → Option PathNames
@@ -74,9 +80,9 @@ set_part bytes None f = None
 set_part bytes (Some p) f = if is_small bytes then Some (f p) else None
 
 abbrev pub part_of : PartCommand → Option Part
-part_of (part_command.Create path bytes eph) = create_part bytes eph (path_within 512 path)
-part_of (part_command.Set path bytes version) = set_part bytes (path_within 512 path) (λ p. part.Set p bytes version)
-part_of (part_command.Delete path version) = delete_part (path_within 512 path) (λ p. part.Delete p version)
+part_of (part_command.Create path bytes eph) = create_part bytes eph (path_within most_path path)
+part_of (part_command.Set path bytes version) = set_part bytes (path_within most_path path) (λ p. part.Set p bytes version)
+part_of (part_command.Delete path version) = delete_part (path_within most_path path) (λ p. part.Delete p version)
 
 abbrev pub and_part : Option Part → Option (List Part) → Option (List Part)
 and_part None ps = None
@@ -95,11 +101,11 @@ want_multi (Some ps) = Writes (request.Multi ps)
 -- parts', or where it deletes the root.
 abbrev pub want_of : Command → Want
 want_of (command.Create path bytes seq eph wait) = if is_small bytes then at_path (path_within (path_limit seq) path) (λ p. Writes (request.Create p bytes seq eph)) else Unfit
-want_of (command.Set path bytes version wait) = if is_small bytes then at_path (path_within 512 path) (λ p. Writes (request.Set p bytes version)) else Unfit
-want_of (command.Delete path version wait) = at_path (path_within 512 path) (λ p. want_delete p (Writes (request.Delete p version)))
-want_of (command.Get path watch) = at_path (path_within 512 path) (λ p. Reads (query.Get p) watch)
-want_of (command.Stat path watch) = at_path (path_within 512 path) (λ p. Reads (query.Stat p) watch)
-want_of (command.Ls path watch) = at_path (path_within 512 path) (λ p. Reads (query.Ls p) watch)
+want_of (command.Set path bytes version wait) = if is_small bytes then at_path (path_within most_path path) (λ p. Writes (request.Set p bytes version)) else Unfit
+want_of (command.Delete path version wait) = at_path (path_within most_path path) (λ p. want_delete p (Writes (request.Delete p version)))
+want_of (command.Get path watch) = at_path (path_within most_path path) (λ p. Reads (query.Get p) watch)
+want_of (command.Stat path watch) = at_path (path_within most_path path) (λ p. Reads (query.Stat p) watch)
+want_of (command.Ls path watch) = at_path (path_within most_path path) (λ p. Reads (query.Ls p) watch)
 want_of command.Close = Writes (request.Close false)
 want_of (command.Multi parts wait) = want_multi (parts_of parts)
 
