@@ -22,7 +22,7 @@ const MOST_VERSION: u64 = 2_147_483_647;
 /// How many clients, commands and turns a file may have.
 pub(crate) const MOST_CLIENTS: usize = 64;
 
-pub(crate) const MOST_COMMANDS: usize = 2048;
+pub(crate) const MOST_COMMANDS: u64 = 2048;
 
 pub(crate) const MOST_TURNS: usize = 65_536;
 
