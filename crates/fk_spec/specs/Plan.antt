@@ -38,14 +38,15 @@ pub record Plan : Type 0 where
 abbrev pub is_client : Plan → ℕ → Bool
 is_client p c = nat_le 1 c && nat_le c (length p.asks)
 
--- how many bytes of data a command may bring, and how long its path's text may be; a sequential
--- create's is shorter by its ten digits
+-- how many bytes of data a command may bring
 abbrev pub data_limit : ℕ
 data_limit = 16384
 
+-- how long a path's text may be
 abbrev pub most_path : ℕ
 most_path = 512
 
+-- and that of a sequential create, to which ten digits are added
 abbrev pub most_numbered_path : ℕ
 most_numbered_path = 502
 
