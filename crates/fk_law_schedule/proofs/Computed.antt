@@ -20,20 +20,20 @@ use Rattle.fk_base.proofs.Logic.{itself}
 pub same_is_equal : (a b : Event) → same_event a b ≡ true → a ≡ b
 same_is_equal a b e = grind (arith, nat_tests)
 
-itself : (a : Event) → same_event a a ≡ true
-itself (event.Client c) = itself c
-itself (event.Deliver c) = itself c
-itself event.Leader = refl
-itself event.Watch = refl
-itself (event.Beat c) = itself c
-itself (event.Step n) = itself n
-itself (event.Crash n) = itself n
-itself (event.Fail n) = itself n
-itself (event.FailClient c) = itself c
-itself (event.Clock t) = itself t
+event_itself : (a : Event) → same_event a a ≡ true
+event_itself (event.Client c) = itself c
+event_itself (event.Deliver c) = itself c
+event_itself event.Leader = refl
+event_itself event.Watch = refl
+event_itself (event.Beat c) = itself c
+event_itself (event.Step n) = itself n
+event_itself (event.Crash n) = itself n
+event_itself (event.Fail n) = itself n
+event_itself (event.FailClient c) = itself c
+event_itself (event.Clock t) = itself t
 
 pub equal_is_same : (a b : Event) → a ≡ b → same_event a b ≡ true
-equal_is_same a b e = subst (λ x. same_event a x ≡ true) e (itself a)
+equal_is_same a b e = subst (λ x. same_event a x ≡ true) e (event_itself a)
 
 -- Cuts. --------------------------------------------------------------------------------------------
 
@@ -119,7 +119,7 @@ empties_found p h _ (Emptied _ e) = record { fresh = []; reached = refl; found =
     found (x ∷ rest) = rw e refl
 empties_found p h k (Goes _ _ x e r) =
     let s = empties_found p (x ∷ h) k r in
-    record { fresh = x ∷ s.fresh; reached = s.reached; found = λ rest. rw (e, itself x.event) (s.found rest) }
+    record { fresh = x ∷ s.fresh; reached = s.reached; found = λ rest. rw (e, event_itself x.event) (s.found rest) }
 
 then_found : (f g : List Entry → List Entry → Option Cut) (h m k : List Entry) → Leads f h m → Leads g m k → Leads (λ a b. then_cut (f a b) g) h k
 then_found f g h m k r s = record {

@@ -9,6 +9,7 @@ use Rattle.std.proofs.lemmas.Bool.{false≢true}
 use Rattle.std.proofs.lemmas.Bool.Decides.{nat_tests}
 use Rattle.std.proofs.lemmas.Slice.Eq.{bytes_eq-Decides}
 use Rattle.std.specs.Cmp.Lexicographic.{texts_ties}
+use Rattle.fk_base.specs.Digits.{number_below}
 use Rattle.fk_base.specs.Path.{Name, same_name}
 use Rattle.fk_tree.specs.Sorted.{has_name}
 use Rattle.fk_print.specs.ClientNames.{are_client_names, are_distinct, is_client_name, is_letter, is_letter_or_digit, is_reserved, starts_with_letter}
@@ -123,7 +124,7 @@ letter_no_digit : (b : ℕ) → is_letter b ≡ true → ((b == 43) ≡ false) �
 letter_no_digit b e = (grind (arith, nat_tests), grind (arith, nat_tests))
 
 letter_no_number : (w : Text) → starts_with_letter w ≡ true → number_of w ≡ None
-unfolding number_of
+unfolding number_of number_below
 letter_no_number [] e = absurd (false≢true e)
 letter_no_number (b ∷ w) e = let s = letter_no_digit b e in rw (s.0, s.1) refl
 

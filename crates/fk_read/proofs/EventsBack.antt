@@ -1,6 +1,7 @@
 -- Each event reads back from the words of its line.
 use Rattle.std.proofs.Common.{◌≡◌, true, List, Some, refl}
 use Rattle.std.specs.List.{flat_map}
+use Rattle.fk_base.specs.Digits.{number_below}
 use Rattle.fk_base.specs.Path.{Name}
 use Rattle.fk_print.specs.ClientNames.{are_client_names}
 use Rattle.fk_print.specs.EventText.{event_words}
@@ -16,7 +17,7 @@ use Rattle.fk_read.proofs.Shown.{AreShown, shown_client, shown_decimal}
 
 pub event_back : (names : List Name) (e : Event) → are_client_names names ≡ true → IsEvent names e
     → event_of names (flat_map words_in (event_words names e)) ≡ Some e
-unfolding number_of
+unfolding number_of number_below
 event_back names (event.Client c) known fits = rw (take_client names c known fits) refl
 event_back names (event.Deliver c) known fits = rw (words_in_client names c known fits, client_not_leader names c known fits, client_not_watch names c known fits, client_back names c known fits) refl
 event_back names event.Leader known fits = refl

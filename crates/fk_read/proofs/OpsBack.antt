@@ -1,6 +1,7 @@
 -- Each operation reads back from the words of its line.
 use Rattle.std.proofs.Common.{◌≡◌, true, List, Some, refl}
 use Rattle.std.specs.List.{flat_map}
+use Rattle.fk_base.specs.Digits.{number_below}
 use Rattle.fk_base.specs.Path.{Name}
 use Rattle.fk_print.specs.ClientNames.{are_client_names}
 use Rattle.fk_print.specs.OpText.{op_words}
@@ -16,7 +17,7 @@ use Rattle.fk_read.proofs.SpotsBack.{take_spot_back, take_word}
 
 pub op_back : (names : List Name) (o : Op) → are_client_names names ≡ true → IsOp names o
     → op_of names (flat_map words_in (op_words names o)) ≡ Some o
-unfolding word_of number_of
+unfolding word_of number_of number_below
 op_back names (op.Pong c ping) known fits = rw (words_in_client names c known fits.0, client_no_number names c known fits.0, client_back names c known fits.0, take_number ping fits.1) refl
 op_back names (op.TakeDone c k t) known fits = rw (words_in_client names c known fits.0, client_no_number names c known fits.0, client_back names c known fits.0, take_number k fits.1, take_number t fits.2) refl
 op_back names (op.TakeEvicted c k t) known fits = rw (words_in_client names c known fits.0, client_no_number names c known fits.0, client_back names c known fits.0, take_number k fits.1, take_number t fits.2) refl

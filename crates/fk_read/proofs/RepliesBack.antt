@@ -5,6 +5,7 @@ use Rattle.std.specs.List.{AllByRecursion, flat_map}
 use Rattle.std.specs.Fmt.{decimal, signed_decimal, digits}
 use Rattle.std.specs.Str.{bytes_eq}
 use Rattle.std.proofs.lemmas.Bool.Decides.{nat_tests}
+use Rattle.fk_base.specs.Digits.{number_below}
 use Rattle.fk_base.specs.Code.{number_of as code_number}
 use Rattle.fk_base.specs.Path.{PathNames, path_text}
 use Rattle.fk_base.specs.declared.code.Code.{Code}
@@ -24,7 +25,8 @@ use Rattle.fk_read.specs.Cut.{words_in}
 use Rattle.fk_read.specs.ReadAct.{take_onto}
 use Rattle.fk_read.specs.ReadReply.{coded, refused_by, shown_of, stat_of, take_reply, has_places}
 use Rattle.fk_read.specs.ReadWords.{small_of}
-use Rattle.fk_read.proofs.WordsBack.{at_back, bare_at, bare_decimal, bare_path, decimal_digits, path_back, small_back, take_code, take_number, take_path, take_small, words_in_bare}
+use Rattle.fk_base.proofs.Numerals.{decimal_digits}
+use Rattle.fk_read.proofs.WordsBack.{at_back, bare_at, bare_decimal, bare_path, path_back, small_back, take_code, take_number, take_path, take_small, words_in_bare}
 use Rattle.fk_read.proofs.DataBack.{shown_data, take_data}
 use Rattle.fk_read.proofs.Lists.{flat_map-map, names_back, onto_back}
 use Rattle.fk_read.proofs.Shown.{AreShown, is_shown, shown_at, shown_code, shown_decimal, shown_names, shown_path, shown_spot, wide}
@@ -32,7 +34,7 @@ use Rattle.fk_read.proofs.SpotsBack.{digits_no_at, take_at}
 
 -- the word of a path is no number
 path_no_small : (p : PathNames) → small_of (path_text p) ≡ None
-unfolding small_of
+unfolding small_of number_below
 path_no_small [] = refl
 path_no_small (n ∷ ns) = refl
 
@@ -41,7 +43,7 @@ path_no_dash [] = refl
 path_no_dash (n ∷ ns) = refl
 
 dash_no_small : small_of (codes "-") ≡ None
-unfolding small_of
+unfolding small_of number_below
 dash_no_small = refl
 
 part_reply_back : (r : PartReply) → IsPartReply r → (rest : List Text) → take_reply (words_in (part_reply_word r) ++ rest) ≡ Some (r, rest)

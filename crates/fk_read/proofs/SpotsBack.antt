@@ -16,7 +16,8 @@ use Rattle.fk_read.specs.Reads.{take}
 use Rattle.fk_read.specs.ReadEnding.{take_spot}
 use Rattle.fk_read.specs.ReadOp.{word_of}
 use Rattle.fk_read.specs.ReadWords.{at_of}
-use Rattle.fk_read.proofs.WordsBack.{at_back, bare_at, bare_decimal, decimal_digits, is_bare, small_back, take_back, words_in_bare}
+use Rattle.fk_base.proofs.Numerals.{decimal_digits}
+use Rattle.fk_read.proofs.WordsBack.{at_back, bare_at, bare_decimal, is_bare, small_back, take_back, words_in_bare}
 
 digit_no_at : (c : ℕ) (rest : Bool) → (is_ascii_digit c && rest) ≡ true → (c == 64) ≡ false
 digit_no_at c rest h = grind (arith, nat_tests)

@@ -2,13 +2,14 @@
 use Rattle.std.specs.Prelude.{ℕ, nat_le, Bool, if◌then◌else◌, ◌&&◌, ◌||◌, List, [], ◌∷◌, ◌++◌, codes, Option, Some, None}
 use Prim.Native.Nat.{suc, zero}
 use Rattle.std.specs.Str.{bytes_eq}
+use Rattle.fk_base.specs.Digits.{expected_of}
 use Rattle.fk_tree.specs.declared.request.Part.{Part}
 use Rattle.fk_tree.specs.declared.request.Part.TheVariants as part
 use Rattle.fk_print.specs.Words.{Text}
 use Rattle.fk_print.specs.declared.line.Act.{Act}
 use Rattle.fk_print.specs.declared.line.Act.TheVariants as act
 use Rattle.fk_read.specs.Reads.{take, then_read, then_word}
-use Rattle.fk_read.specs.ReadWords.{data_of, expected_of, number_of, path_of_word}
+use Rattle.fk_read.specs.ReadWords.{data_of, number_of, path_of_word}
 
 -- so many items, behind those that were read
 abbrev pub take_onto : {A : Type 0} → (List Text → Option (A × List Text)) → ℕ → List A → List Text → Option (List A × List Text)
