@@ -194,7 +194,7 @@ fault_busy n (Telling v t s) = refl
 fault_busy n (Beating c s) = refl
 
 follower_acts : (p : Plan) (n : ℕ) (h : List Entry) (w : Meaning) (m : follower.Meaning) (s : following.Stage) → m.follower.stage ≡ s → IsWorld p h w → IsFollower p n h m → actor (function_op p h n (place_of p n h)) ≡ Some n
-follower_acts p n h w m following.Owned e x i = ap (λ z. actor (function_op p h n z)) i.stands ∙ ap (λ z. actor (following.follower_op p h n m.follower z)) e
+follower_acts p n h w m following.Owned e x i = ap (λ z. actor (function_op p h n z)) i.stands ∙ ap (λ z. actor (following.follower_op p h n i.whole z)) (ap (λ z. z.stage) (sym i.sketched) ∙ e)
 follower_acts p n h w m s e x i =
     let y = follower_steps p n h w.services nothing_read m x.history x.services i (subst (IsReadAt w.services.table m.follower.session nothing_read.owned) (sym e) tt) in
     ap actor (sym y.rule) ∙ y.own

@@ -40,12 +40,13 @@ use Rattle.fk_spec.specs.Heartbeat as beatstage
 use Rattle.fk_spec.specs.Function.{Beating, Following, Leading, Telling, actor, place_of}
 use Rattle.fk_spec.specs.Next.{IsHistory}
 use Rattle.fk_law.specs.Due.{IsDue, IsPushOf, Replies, Tells}
-use Rattle.fk_law.proofs.Starting.{follower_task, leader_task}
+use Rattle.fk_law.proofs.Starting.{leader_task}
 use Rattle.fk_agree.specs.Heads.{note_as}
 use Rattle.fk_agree.specs.Pushes as Pushes
 use Rattle.fk_agree.specs.Sending.{Sends}
 use Rattle.fk_agree.proofs.Telling.{message_tells_its_push}
 use Rattle.fk_agree_follow.specs.Followers.{IsFollower, Keeps}
+use Rattle.fk_agree_follow.proofs.Operating.{its_push, its_request, its_task}
 use Rattle.fk_agree_lead.specs.Leaders.{IsLeader}
 use Rattle.fk_agree_lead.proofs.Posted.{evicts_the_same}
 use Rattle.fk_agree_lead.proofs.Requested.{message_tells_its_request}
@@ -73,7 +74,8 @@ same_beating c d x y e = (cc, cc)
 its_message : (p : Plan) (n s : ℕ) (h : List Entry) (m : follower.Meaning) → IsFollower p n h m → push_message p h (op.Push n s) ≡ Some (push_at (clock_of h) m)
 its_message p n s h m i =
     ap (push_by p h n) i.stands
-    ∙ (ap (option_map (push_with n (clock_of h) m.follower)) i.requested ∙ ap (λ z. Some (push_with z (clock_of h) m.follower m.message.request)) (sym i.inv))
+    ∙ (ap (option_map (push_with n (clock_of h) i.whole)) (its_request p n h m i)
+    ∙ (ap (λ z. Some (push_with z (clock_of h) i.whole m.message.request)) (sym i.inv) ∙ ap Some (sym (its_push p n (clock_of h) h m i))))
 
 push_sends : (p : Plan) (n s : ℕ) (h : List Entry) (m : follower.Meaning) → IsFollower p n h m → IsPushed (push_at (clock_of h) m) → Sends p h (op.Push n s)
 push_sends p n s h m i r = record {
@@ -128,7 +130,7 @@ follower_replies : (p : Plan) (n c k : ℕ) (h : List Entry) (m : follower.Meani
 follower_replies p n c k h m l i a b s r = reply_sends p n c k h (λ y t q e. kept_readable p k h (outcome_of c k h) y t readable (subst (λ o. reply_message (is_evict (request_of p c k h)) k (outcome_of c k h) o ≡ Some y) task q) e)
   where
     task : task_of n h ≡ Some (Follows c k)
-    task = follower_task p n h m.follower l i.stands ∙ (λ j. Some (Follows (a j) (b j)))
+    task = its_task p n h m l i ∙ (λ j. Some (Follows (a j) (b j)))
 
     outcome : m.outcome ≡ kept_as (outcome_of c k h)
     outcome = subst (Keeps p n h m) s i.keeps ∙ (λ j. kept_as (outcome_of (a j) (b j) h))
@@ -187,20 +189,20 @@ ping_sends p n c h r = record {
 pub follower_sends : (p : Plan) (n : ℕ) (h : List Entry) (m : follower.Meaning) (o : Op) → IsHistory p h → IsFollower p n h m → follow.IsReadable (clock_of h) m → actor o ≡ Some n → IsDue p h o → Sends p h o
 follower_sends p n h m (op.Push j s) l i r a d =
     let g = same_Some j n a in
-    let f = same_follower d.0 m.follower (sym d.1 ∙ (ap (λ z. place_of p z h) g ∙ i.stands)) in
-    subst (λ z. Sends p h (op.Push z s)) (sym g) (push_sends p n s h m i (subst (follow.is_readable_at (clock_of h) m) (sym (ap (λ z. z.stage) f) ∙ d.2) r).0)
+    let f = same_follower d.0 i.whole (sym d.1 ∙ (ap (λ z. place_of p z h) g ∙ i.stands)) in
+    subst (λ z. Sends p h (op.Push z s)) (sym g) (push_sends p n s h m i (subst (follow.is_readable_at (clock_of h) m) (ap (λ z. z.stage) i.sketched ∙ (sym (ap (λ z. z.stage) f) ∙ d.2)) r).0)
 follower_sends p n h m (op.Reply j c k) l i r a d =
     let g = same_Some j n a in
     let e = subst (Replies c k h) (ap (λ z. place_of p z h) g ∙ i.stands) d in
-    subst (λ z. Sends p h (op.Reply z c k)) (sym g) (follower_replies p n c k h m l i e.1 e.2 e.0 r)
+    subst (λ z. Sends p h (op.Reply z c k)) (sym g) (follower_replies p n c k h m l i (ap (λ z. z.session) i.sketched ∙ e.1) (ap (λ z. z.k) i.sketched ∙ e.2) (ap (λ z. z.stage) i.sketched ∙ e.0) r)
 follower_sends p n h m (op.Notify j t w) l i r a d = absurd (apart (sym d.0 ∙ (ap (λ z. place_of p z h) (same_Some j n a) ∙ i.stands)))
   where
-    apart : Leading t leadstage.Notify ≡ Following m.follower → ⊥
+    apart : Leading t leadstage.Notify ≡ Following i.whole → ⊥
     apart e = grind arith
 follower_sends p n h m (op.Tell j c id) l i r a d = absurd (subst (Tells c id) (ap (λ z. place_of p z h) (same_Some j n a) ∙ i.stands) d)
 follower_sends p n h m (op.Ping j c) l i r a d = absurd (apart (sym d ∙ (ap (λ z. place_of p z h) (same_Some j n a) ∙ i.stands)))
   where
-    apart : Beating c beatstage.Ping ≡ Following m.follower → ⊥
+    apart : Beating c beatstage.Ping ≡ Following i.whole → ⊥
     apart e = grind arith
 follower_sends p n h m o l i r a d = silent_sends p h o tt
 

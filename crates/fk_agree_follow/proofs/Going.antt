@@ -19,7 +19,8 @@ use Rattle.fk_store.specs.declared.outcome.Outcome.TheVariants as kept
 use Rattle.fk_follow.specs.Fit.{IsReadAt}
 use Rattle.fk_follow.specs.Meaning as follow
 use Rattle.fk_follow.specs.Meaning.{Meaning, Own, is_end, is_ended}
-use Rattle.fk_follow.specs.Next.{granted_at, next_with}
+use Rattle.fk_follow.specs.Next.{granted_at, last_in, next_with}
+use Rattle.fk_follow.specs.Sketches.{follower_for, grant_for}
 use Rattle.fk_settle.specs.Held as settle
 use Rattle.fk_follow.specs.Operation.{calm_op, locked, step_op}
 use Rattle.fk_stand.specs.Messages.{push_with}
@@ -50,8 +51,9 @@ use Rattle.fk_agree.proofs.Granting.{shows_last, shows_node}
 use Rattle.fk_agree.proofs.Serving.{session_is}
 use Rattle.fk_agree_follow.specs.Followers.{FollowerEndsByFault, FollowerGoesOn, IsFollower, Keeps}
 use Rattle.fk_agree_follow.proofs.Making.{Made, ack_all, by_settling, either, lock_all, made_by, session_all, stage_makes}
-use Rattle.fk_agree_follow.proofs.Operating.{calm_follower, follower_faults, given_so, its_client, its_session, its_task}
+use Rattle.fk_agree_follow.proofs.Operating.{calm_follower, follower_faults, given_so, its_client, its_push, its_request, its_session, its_task}
 use Rattle.fk_agree_follow.proofs.Reading.{owned_same}
+use Rattle.fk_agree_follow.proofs.Sketching.{begins_for, grows_for, locks_for}
 use Rattle.fk_agree_follow.proofs.Staying.{was_sent}
 
 -- Where it stands after its operation. ------------------------------------------------------------------
@@ -89,44 +91,52 @@ longer v o ls h = record { event = v; op = o; lines = ls } ∷ h
 abbrev Goes : Plan → ℕ → List Entry → Meaning → Type 0
 Goes p n g m = IsFollower p n g m ⊎ HasEnded p n g (is_ended m)
 
--- What is left to show of a follower after its operation: it goes on as the rules' follower does.
-record GoesSo (p : Plan) (n : ℕ) (o : Op) (h g : List Entry) (m x : Meaning) : Type 0 where
+-- What is left to show of a follower after its operation: it goes on as the rules' follower f does.
+record GoesSo (p : Plan) (n : ℕ) (o : Op) (h g : List Entry) (m : Meaning) (f : Follower) (x : Meaning) : Type 0 where
   pub inv : x.inv ≡ m.inv
   pub message : x.message ≡ m.message
-  pub follower : x.follower ≡ stage.next_with p h m.message.request o m.follower
+  pub follower : x.follower ≡ follower_for m.message.request (stage.next_with p h m.message.request o f)
   pub owns : (path : PathNames) → follow.own_moment path x.owns 0 ≡ rules.own_moment n path g
   pub keeps : Keeps p n g x x.follower.stage
 
-place_is : (p : Plan) (n : ℕ) (v : Event) (o : Op) (ls : List Line) (h : List Entry) (m x : Meaning) → IsFollower p n h m → actor o ≡ Some n → x.follower ≡ stage.next_with p h m.message.request o m.follower → place_of p n (longer v o ls h) ≡ follow_on x.follower.stage x.follower
-place_is p n v o ls h m x i a e =
+place_is : (p : Plan) (n : ℕ) (v : Event) (o : Op) (ls : List Line) (h : List Entry) (m : Meaning) (i : IsFollower p n h m) → actor o ≡ Some n → let w = stage.next_with p h m.message.request o i.whole in place_of p n (longer v o ls h) ≡ follow_on w.stage w
+place_is p n v o ls h m i a =
     own_operation_moves_it p n (record { event = v; op = o; lines = ls }) h a
-    ∙ (ap (moved p h o) i.stands
-    ∙ (ap (λ r. let g = stage.next_for p h r o m.follower in follow_on g.stage g) i.requested ∙ ap (λ g. follow_on g.stage g) (sym e)))
+    ∙ (ap (moved p h o) i.stands ∙ ap (λ r. let g = stage.next_for p h r o i.whole in follow_on g.stage g) (its_request p n h m i))
 
-goes : (p : Plan) (n : ℕ) (v : Event) (o : Op) (ls : List Line) (h : List Entry) (m x : Meaning) → IsHistory p (longer v o ls h) → IsFollower p n h m → actor o ≡ Some n → GoesSo p n o h (longer v o ls h) m x → Goes p n (longer v o ls h) x
+goes : (p : Plan) (n : ℕ) (v : Event) (o : Op) (ls : List Line) (h : List Entry) (m x : Meaning) → IsHistory p (longer v o ls h) → (i : IsFollower p n h m) → actor o ≡ Some n → GoesSo p n o h (longer v o ls h) m i.whole x → Goes p n (longer v o ls h) x
 goes p n v o ls h m x l i a g = by_end (is_end x.follower.stage) refl
   where
     f : Follower
     f = m.follower
 
+    -- the rules' follower after it
+    w : Follower
+    w = stage.next_with p h m.message.request o i.whole
+
     session : x.follower.session ≡ f.session
-    session = ap (λ z. z.session) g.follower ∙ (ahead p h m.message.request o f).0
+    session = ap (λ z. z.session) g.follower ∙ ((ahead p h m.message.request o i.whole).0 ∙ ap (λ z. z.session) (sym i.sketched))
 
     number : x.follower.k ≡ f.k
-    number = ap (λ z. z.k) g.follower ∙ (ahead p h m.message.request o f).1
+    number = ap (λ z. z.k) g.follower ∙ ((ahead p h m.message.request o i.whole).1 ∙ ap (λ z. z.k) (sym i.sketched))
+
+    ends : is_end w.stage ≡ is_end x.follower.stage
+    ends = ap (λ z. is_end z.stage) (sym g.follower)
 
     sent : f.k ≤ sends_of f.session h
     sent = (was_sent p n h m l.0 i).1
 
-    place : place_of p n (longer v o ls h) ≡ follow_on x.follower.stage x.follower
-    place = place_is p n v o ls h m x i a g.follower
+    place : place_of p n (longer v o ls h) ≡ follow_on w.stage w
+    place = place_is p n v o ls h m i a
 
     by_end : (b : Bool) → is_end x.follower.stage ≡ b → Goes p n (longer v o ls h) x
-    by_end true e = inr (record { is_so = e; absent = place ∙ off_stage x.follower.stage x.follower e })
+    by_end true e = inr (record { is_so = e; absent = place ∙ off_stage w.stage w (ends ∙ e) })
     by_end false e = inl (record {
       inv = g.inv ∙ i.inv;
       going = e;
-      stands = place ∙ on_stage x.follower.stage x.follower e;
+      whole = w;
+      stands = place ∙ on_stage w.stage w (ends ∙ e);
+      sketched = g.follower ∙ ap (λ z. follower_for z.request w) (sym g.message);
       requested = (λ j. request_of p (session j) (number j) (longer v o ls h)) ∙ (request_stays p f.session f.k (record { event = v; op = o; lines = ls }) h sent ∙ (i.requested ∙ ap (λ z. Some z.request) (sym g.message)));
       seen = ap (λ z. z.seen) g.message ∙ (i.seen ∙ (ap seen_from (sym (origin_stays f.session f.k (record { event = v; op = o; lines = ls }) h sent)) ∙ (λ j. seen_with (sym session j) (sym number j) (longer v o ls h))));
       written = subst IsSent (sym g.message) i.written;
@@ -180,101 +190,130 @@ record Sees (p : Plan) (h : List Entry) (m : Meaning) (t : table.Meaning) : Type
   pub session : session_of t m.follower.session ≡ session_record p m.follower.session h
   pub nodes : (path : PathNames) → granted_at t path ≡ record { path = path; node = (stored_view p h).node path; last = last_edit p path h }
 
-its_due : (p : Plan) (n k : ℕ) (h : List Entry) (m : Meaning) (f : Follower) → place_of p k h ≡ Following f → k ≡ n → IsFollower p n h m → f ≡ m.follower
-its_due p n k h m f b e i = same_follower p h k n f m.follower b (ap Some e) i.stands
+its_due : (p : Plan) (n k : ℕ) (h : List Entry) (m : Meaning) (f : Follower) → place_of p k h ≡ Following f → k ≡ n → (i : IsFollower p n h m) → f ≡ i.whole
+its_due p n k h m f b e i = same_follower p h k n f i.whole b (ap Some e) i.stands
 
-going : (p : Plan) (n : ℕ) (v : Event) (o : Op) (ls : List Line) (h : List Entry) (m : Meaning) (t : table.Meaning) (owned : List PathNames) → IsHistory p (longer v o ls h) → IsFollower p n h m → Sees p h m t → IsDue p h o → Made n o → OwnedSo p h m owned o
-    → GoesSo p n o h (longer v o ls h) m (next_with t owned (clock_of h) o m)
+-- what is said of the session, the number or the stage of the rules' follower is said of it
+its_stage : (p : Plan) (n k : ℕ) (h : List Entry) (m : Meaning) (f : Follower) (x : Stage) → place_of p k h ≡ Following f → k ≡ n → IsFollower p n h m → f.stage ≡ x → m.follower.stage ≡ x
+its_stage p n k h m f x b e i s = ap (λ z. z.stage) i.sketched ∙ (ap (λ z. z.stage) (sym (its_due p n k h m f b e i)) ∙ s)
+
+its_number : (p : Plan) (n k : ℕ) (h : List Entry) (m : Meaning) (f : Follower) (d : ℕ) → place_of p k h ≡ Following f → k ≡ n → IsFollower p n h m → settled_of f.session h + d ≡ f.k → settled_of m.follower.session h + d ≡ m.follower.k
+its_number p n k h m f d b e i s = subst (λ z. settled_of z.session h + d ≡ z.k) (sym i.sketched) (subst (λ z. settled_of z.session h + d ≡ z.k) (its_due p n k h m f b e i) s)
+
+its_zero : (p : Plan) (n k : ℕ) (h : List Entry) (m : Meaning) (f : Follower) → place_of p k h ≡ Following f → k ≡ n → IsFollower p n h m → settled_of f.session h ≡ f.k → settled_of m.follower.session h ≡ m.follower.k
+its_zero p n k h m f b e i s = subst (λ z. settled_of z.session h ≡ z.k) (sym i.sketched) (subst (λ z. settled_of z.session h ≡ z.k) (its_due p n k h m f b e i) s)
+
+-- it goes to a stage as the rules' follower does
+goes_to : {f g : Follower} (x : Stage) → f ≡ g → record f { stage = x } ≡ record g { stage = x }
+goes_to x e = λ j. record (e j) { stage = x }
+
+its_seen : (p : Plan) (n : ℕ) (h : List Entry) (m : Meaning) (i : IsFollower p n h m) → m.message.seen ≡ seen_with i.whole.session i.whole.k h
+its_seen p n h m i = i.seen ∙ ap (λ f. seen_with f.session f.k h) i.sketched
+
+its_last : (p : Plan) (n : ℕ) (h : List Entry) (m : Meaning) (t : table.Meaning) (i : IsFollower p n h m) → Sees p h m t → last_in t m ≡ last_of_session i.whole.session h
+its_last p n h m t i s = ap (λ z. z.last) s.session ∙ ap (λ f. last_of_session f.session h) i.sketched
+
+going : (p : Plan) (n : ℕ) (v : Event) (o : Op) (ls : List Line) (h : List Entry) (m : Meaning) (t : table.Meaning) (owned : List PathNames) → IsHistory p (longer v o ls h) → (i : IsFollower p n h m) → Sees p h m t → IsDue p h o → Made n o → OwnedSo p h m owned o
+    → GoesSo p n o h (longer v o ls h) m i.whole (next_with t owned (clock_of h) o m)
 going p n v (op.SessionNew k) ls h m t owned l i s d a g =
-    let f = m.follower in
+    let f = i.whole in
     let r = m.message.request in
-    let e : to_begin m.message.seen r (record f { last = (session_of t f.session).last }) ≡ to_begin (seen_with f.session f.k h) r (record f { last = last_of_session f.session h }) = λ j. to_begin (i.seen j) r (record f { last = (s.session j).last }) in
+    let seen = its_seen p n h m i in
+    let last = its_last p n h m t i s in
+    let e : to_begin m.message.seen r (record m.follower { last = last_in t m }) ≡ follower_for r (to_begin (seen_with f.session f.k h) r (record f { last = last_of_session f.session h })) =
+    (λ j. to_begin (seen j) r (record (i.sketched j) { last = last j })) ∙ begins_for (seen_with f.session f.k h) r (record f { last = last_of_session f.session h }) in
     record {
       inv = refl;
       message = refl;
       follower = e;
       owns = i.owns;
-      keeps = plain p n (longer v (op.SessionNew k) ls h) (next_with t owned (clock_of h) (op.SessionNew k) m) (to_begin m.message.seen r (record f { last = (session_of t f.session).last })).stage (ap (λ z. progress z.stage) e ∙ (ahead p h r (op.SessionNew k) f).2) refl;
+      keeps = plain p n (longer v (op.SessionNew k) ls h) (next_with t owned (clock_of h) (op.SessionNew k) m) (to_begin m.message.seen r (record m.follower { last = last_in t m })).stage (ap (λ z. progress z.stage) e ∙ (ahead p h r (op.SessionNew k) f).2) refl;
     }
-going p n v (op.SessionClosed k) ls h m t owned l i s d a g = record {
-  inv = refl;
-  message = refl;
-  follower = λ j. record m.follower { stage = stage.Expire (max (i.seen j) (s.session j).last) };
-  owns = i.owns;
-  keeps = refl;
-}
-going p n v (op.SessionApplied k) ls h m t owned l i s d a g = record { inv = refl; message = refl; follower = refl; owns = i.owns; keeps = refl }
+going p n v (op.SessionClosed k) ls h m t owned l i s d a g =
+    let seen = its_seen p n h m i in
+    let last = its_last p n h m t i s in
+    record {
+      inv = refl;
+      message = refl;
+      follower = λ j. record (i.sketched j) { stage = stage.Expire (max (seen j) (last j)) };
+      owns = i.owns;
+      keeps = refl;
+    }
+going p n v (op.SessionApplied k) ls h m t owned l i s d a g = record { inv = refl; message = refl; follower = goes_to stage.Ack i.sketched; owns = i.owns; keeps = refl }
 going p n v (op.SessionRefused k) ls h m t owned l i s d a g =
-    let e = its_due p n k h m d.0 d.1 a i in
-    let z : settled_of m.follower.session h ≡ m.follower.k = subst (λ f. settled_of f.session h ≡ f.k) e d.3 in
-    record { inv = refl; message = refl; follower = refl; owns = i.owns; keeps = ap (λ x. x.outcome) s.session ∙ ap (λ j. kept_as (outcome_of m.follower.session j h)) z }
-going p n v (op.SessionPast k) ls h m t owned l i s d a g = record { inv = refl; message = refl; follower = refl; owns = i.owns; keeps = refl }
+    let z = its_zero p n k h m d.0 d.1 a i d.3 in
+    record { inv = refl; message = refl; follower = goes_to stage.Reply i.sketched; owns = i.owns; keeps = ap (λ x. x.outcome) s.session ∙ ap (λ j. kept_as (outcome_of m.follower.session j h)) z }
+going p n v (op.SessionPast k) ls h m t owned l i s d a g = record { inv = refl; message = refl; follower = goes_to stage.Ack i.sketched; owns = i.owns; keeps = refl }
 going p n v (op.Owned k count) ls h m t owned l i s d a g =
-    let f = m.follower in
+    let f = i.whole in
     let r = m.message.request in
-    let e : to_lock m.message.seen r (record f { owned = owned }) ≡ to_lock (seen_with f.session f.k h) r (record f { owned = owned_after f.session (committed_of p h) }) = λ j. to_lock (i.seen j) r (record f { owned = g j }) in
+    let seen = its_seen p n h m i in
+    let its = g ∙ ap (λ z. owned_after z.session (committed_of p h)) i.sketched in
+    let e : to_lock m.message.seen r (record m.follower { owned = owned }) ≡ follower_for r (to_lock (seen_with f.session f.k h) r (record f { owned = owned_after f.session (committed_of p h) })) =
+    (λ j. to_lock (seen j) r (record (i.sketched j) { owned = its j })) ∙ locks_for (seen_with f.session f.k h) r (record f { owned = owned_after f.session (committed_of p h) }) in
     record {
       inv = refl;
       message = refl;
       follower = e;
       owns = i.owns;
-      keeps = plain p n (longer v (op.Owned k count) ls h) (next_with t owned (clock_of h) (op.Owned k count) m) (to_lock m.message.seen r (record f { owned = owned })).stage (ap (λ z. progress z.stage) e ∙ (ahead p h r (op.Owned k count) f).2) refl;
+      keeps = plain p n (longer v (op.Owned k count) ls h) (next_with t owned (clock_of h) (op.Owned k count) m) (to_lock m.message.seen r (record m.follower { owned = owned })).stage (ap (λ z. progress z.stage) e ∙ (ahead p h r (op.Owned k count) f).2) refl;
     }
 going p n v (op.LockOk k path) ls h m t owned l i s d a g =
-    let f = m.follower in
+    let f = i.whole in
     let r = m.message.request in
-    let e : to_lock m.message.seen r (record f { granted = f.granted ++ granted_at t path ∷ [] }) ≡ to_lock (seen_with f.session f.k h) r (stage.with_granted p h path f) = λ j. to_lock (i.seen j) r (record f { granted = f.granted ++ (s.nodes path j) ∷ [] }) in
+    let seen = its_seen p n h m i in
+    let x = record m.follower { granted = m.follower.granted ++ grant_for r (granted_at t path) ∷ [] } in
+    let e : to_lock m.message.seen r x ≡ follower_for r (to_lock (seen_with f.session f.k h) r (stage.with_granted p h path f)) =
+    (λ j. to_lock (seen j) r (record (i.sketched j) { granted = (i.sketched j).granted ++ grant_for r (s.nodes path j) ∷ [] }))
+    ∙ grows_for (seen_with f.session f.k h) r f (record { path = path; node = (stored_view p h).node path; last = last_edit p path h }) in
     record {
       inv = refl;
       message = refl;
       follower = e;
       owns = λ q. own_append q m.owns (record { path = path; moment = clock_of h }) 0 ∙ (ap (cond (same_path path q) (clock_of h)) (i.owns q) ∙ sym (ap (λ b. cond (b && same_path path q) (clock_of h) (rules.own_moment n q h)) (eq-eqb k n a)));
-      keeps = plain p n (longer v (op.LockOk k path) ls h) (next_with t owned (clock_of h) (op.LockOk k path) m) (to_lock m.message.seen r (record f { granted = f.granted ++ granted_at t path ∷ [] })).stage (ap (λ z. progress z.stage) e ∙ (ahead p h r (op.LockOk k path) f).2) refl;
+      keeps = plain p n (longer v (op.LockOk k path) ls h) (next_with t owned (clock_of h) (op.LockOk k path) m) (to_lock m.message.seen r x).stage (ap (λ z. progress z.stage) e ∙ (ahead p h r (op.LockOk k path) f).2) refl;
     }
 going p n v (op.LockBusy k path holder moment) ls h m t owned l i s d a g =
-    let e = its_due p n k h m d.0 d.1 a i in
-    let z : m.follower.stage ≡ stage.Lock path = subst (λ f. f.stage ≡ stage.Lock path) e d.2 in
-    record { inv = refl; message = refl; follower = refl; owns = i.owns; keeps = subst (Keeps p n (longer v (op.LockBusy k path holder moment) ls h) m) (sym z) (subst (Keeps p n h m) z i.keeps) }
+    let z = its_stage p n k h m d.0 (stage.Lock path) d.1 a i d.2 in
+    record { inv = refl; message = refl; follower = i.sketched; owns = i.owns; keeps = subst (Keeps p n (longer v (op.LockBusy k path holder moment) ls h) m) (sym z) (subst (Keeps p n h m) z i.keeps) }
 going p n v (op.Push k tx) ls h m t owned l i s d a g =
     let r = m.message.request in
     let b = ap (λ z. place_of p z h) a ∙ i.stands in
     record {
       inv = refl;
       message = refl;
-      follower = refl;
+      follower = goes_to (stage.Commit tx) i.sketched;
       owns = i.owns;
       keeps = (
-        ap (λ z. or_else z (push_message_of p tx h)) (its_message p tx k h (op.Push k tx) refl ∙ message_at p k tx h m.follower r b i.requested)
-            ∙ ap (λ z. Some (push_with z (clock_of h) m.follower r)) (a ∙ sym i.inv),
+        ap (λ z. or_else z (push_message_of p tx h)) (its_message p tx k h (op.Push k tx) refl ∙ message_at p k tx h i.whole r b (its_request p n h m i))
+            ∙ (ap (λ z. Some (push_with z (clock_of h) i.whole r)) (a ∙ sym i.inv) ∙ ap Some (sym (its_push p n (clock_of h) h m i))),
         refl,
       );
     }
-going p n v (op.CommitOk k tx) ls h m t owned l i s d a g = record { inv = refl; message = refl; follower = refl; owns = i.owns; keeps = refl }
-going p n v (op.CommitSettled k tx settled) ls h m t owned l i s d a g = record { inv = refl; message = refl; follower = refl; owns = i.owns; keeps = refl }
-going p n v (op.CommitLock k tx path holder moment) ls h m t owned l i s d a g = record { inv = refl; message = refl; follower = refl; owns = i.owns; keeps = loses n k h path holder moment (follow.own_moment path m.owns 0) (loss_of n h) a (i.owns path) }
+going p n v (op.CommitOk k tx) ls h m t owned l i s d a g = record { inv = refl; message = refl; follower = goes_to stage.Ack i.sketched; owns = i.owns; keeps = refl }
+going p n v (op.CommitSettled k tx settled) ls h m t owned l i s d a g = record { inv = refl; message = refl; follower = goes_to stage.Session i.sketched; owns = i.owns; keeps = refl }
+going p n v (op.CommitLock k tx path holder moment) ls h m t owned l i s d a g = record { inv = refl; message = refl; follower = goes_to stage.Lost i.sketched; owns = i.owns; keeps = loses n k h path holder moment (follow.own_moment path m.owns 0) (loss_of n h) a (i.owns path) }
 going p n v (op.RefuseOk k cd place at) ls h m t owned l i s d a g =
-    let e = its_due p n k h m d.0 d.1 a i in
-    let z : settled_of m.follower.session h + 1 ≡ m.follower.k = subst (λ f. settled_of f.session h + 1 ≡ f.k) e d.2 in
+    let z = its_number p n k h m d.0 1 d.1 a i d.2 in
     let u : session_followed (task_of k h) ≡ Some m.follower.session = ap (λ y. session_followed (task_of y h)) a ∙ ap session_followed (its_task p n h m l.0 i) in
-    record { inv = refl; message = refl; follower = refl; owns = i.owns; keeps = sym (ap kept_as (settles m.follower.session m.follower.k h (Refused cd place at) (session_followed (task_of k h)) u z)) }
-going p n v (op.RefuseSettled k cd place at settled) ls h m t owned l i s d a g = record { inv = refl; message = refl; follower = refl; owns = i.owns; keeps = refl }
-going p n v (op.RefuseLock k cd place at path holder moment) ls h m t owned l i s d a g = record { inv = refl; message = refl; follower = refl; owns = i.owns; keeps = loses n k h path holder moment (follow.own_moment path m.owns 0) (loss_of n h) a (i.owns path) }
+    record { inv = refl; message = refl; follower = goes_to stage.Reply i.sketched; owns = i.owns; keeps = sym (ap kept_as (settles m.follower.session m.follower.k h (Refused cd place at) (session_followed (task_of k h)) u z)) }
+going p n v (op.RefuseSettled k cd place at settled) ls h m t owned l i s d a g = record { inv = refl; message = refl; follower = goes_to stage.Session i.sketched; owns = i.owns; keeps = refl }
+going p n v (op.RefuseLock k cd place at path holder moment) ls h m t owned l i s d a g = record { inv = refl; message = refl; follower = goes_to stage.Lost i.sketched; owns = i.owns; keeps = loses n k h path holder moment (follow.own_moment path m.owns 0) (loss_of n h) a (i.owns path) }
 going p n v (op.LostOk k) ls h m t owned l i s d a g =
-    let e = its_due p n k h m d.0 d.1 a i in
-    let z : settled_of m.follower.session h + 1 ≡ m.follower.k = subst (λ f. settled_of f.session h + 1 ≡ f.k) e d.3 in
-    let y : m.follower.stage ≡ stage.Lost = subst (λ f. f.stage ≡ stage.Lost) e d.2 in
+    let z = its_number p n k h m d.0 1 d.1 a i d.3 in
+    let y = its_stage p n k h m d.0 stage.Lost d.1 a i d.2 in
     let u : session_followed (task_of k h) ≡ Some m.follower.session = ap (λ y. session_followed (task_of y h)) a ∙ ap session_followed (its_task p n h m l.0 i) in
     record {
       inv = refl;
       message = refl;
-      follower = refl;
+      follower = goes_to stage.Reply i.sketched;
       owns = i.owns;
       keeps = subst (Keeps p n h m) y i.keeps ∙ (ap (λ x. kept_as (Some (Passed (loss_of x h)))) (sym a) ∙ sym (ap kept_as (settles m.follower.session m.follower.k h (Passed (loss_of k h)) (session_followed (task_of k h)) u z)));
     }
-going p n v (op.LostSettled k settled) ls h m t owned l i s d a g = record { inv = refl; message = refl; follower = refl; owns = i.owns; keeps = refl }
-going p n v (op.Reply k c j) ls h m t owned l i s d a g = record { inv = refl; message = refl; follower = refl; owns = i.owns; keeps = refl }
-going p n v (op.AckOk k) ls h m t owned l i s d a g = record { inv = refl; message = refl; follower = refl; owns = i.owns; keeps = refl }
-going p n v (op.AckGone k) ls h m t owned l i s d a g = record { inv = refl; message = refl; follower = refl; owns = i.owns; keeps = refl }
+going p n v (op.LostSettled k settled) ls h m t owned l i s d a g = record { inv = refl; message = refl; follower = goes_to stage.Session i.sketched; owns = i.owns; keeps = refl }
+going p n v (op.Reply k c j) ls h m t owned l i s d a g = record { inv = refl; message = refl; follower = goes_to stage.Ack i.sketched; owns = i.owns; keeps = refl }
+going p n v (op.AckOk k) ls h m t owned l i s d a g = record { inv = refl; message = refl; follower = goes_to stage.Ended i.sketched; owns = i.owns; keeps = refl }
+going p n v (op.AckGone k) ls h m t owned l i s d a g = record { inv = refl; message = refl; follower = goes_to stage.Ended i.sketched; owns = i.owns; keeps = refl }
 going p n v o ls h m t owned l i s d a g = absurd a
 
 -- The whole. --------------------------------------------------------------------------------------------
@@ -321,7 +360,7 @@ follower_goes_on p n e h m t q u w owned l s i r g = subst (λ o. Goes p n (long
 pub follower_ends_by_fault : FollowerEndsByFault
 follower_ends_by_fault p n now time e h m t q owned i g = record {
   is_so = ap (λ o. is_ended (next_with (table.armed t) owned now o m)) fault;
-  absent = own_operation_moves_it p n e h (ap actor (g ∙ fault) ∙ ap Some i.inv) ∙ (ap (moved p h e.op) i.stands ∙ (ap (λ o. moved p h o (Following m.follower)) (g ∙ fault) ∙ ap (λ r. let x = stage.next_for p h r (op.Fault m.inv (follower_word m.follower.stage)) m.follower in follow_on x.stage x) i.requested));
+  absent = own_operation_moves_it p n e h (ap actor (g ∙ fault) ∙ ap Some i.inv) ∙ (ap (moved p h e.op) i.stands ∙ (ap (λ o. moved p h o (Following i.whole)) (g ∙ fault) ∙ ap (λ r. let x = stage.next_for p h r (op.Fault m.inv (follower_word m.follower.stage)) i.whole in follow_on x.stage x) (its_request p n h m i)));
 }
   where
     fault : step_op (table.armed t) (post.armed q) now time owned m ≡ op.Fault m.inv (follower_word m.follower.stage)

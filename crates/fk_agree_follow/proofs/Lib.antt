@@ -5,6 +5,7 @@ pub mod Making
 pub mod Operating
 pub mod Posting
 pub mod Reading
+pub mod Sketching
 pub mod Starting
 pub mod Staying
 pub mod Writing

@@ -16,10 +16,12 @@ use Rattle.fk_follow.specs.Meaning.{Meaning, is_end, is_ended}
 use Rattle.fk_follow.specs.Operation as follow
 use Rattle.fk_settle.specs.Held as settle
 use Rattle.fk_follow.specs.Operation.{calm_op, is_armed, locked, step_op}
+use Rattle.fk_follow.specs.Services.{push_at}
+use Rattle.fk_stand.specs.Messages.{push_with}
 use Rattle.fk_stand.specs.Posts.{post_after}
 use Rattle.fk_stand.specs.Tables.{table_after}
 use Rattle.fk_spec.specs.Plan.{Plan, is_client}
-use Rattle.fk_spec.specs.Start.{Follows, clock_of, task_of}
+use Rattle.fk_spec.specs.Start.{Follows, clock_of, request_of, task_of}
 use Rattle.fk_spec.specs.Failing.{or_fault}
 use Rattle.fk_spec.specs.Locks.{first_passed, granted}
 use Rattle.fk_spec.specs.Settling.{settled_of}
@@ -34,17 +36,26 @@ use Rattle.fk_agree.proofs.Held.{passed_same, settled_is}
 use Rattle.fk_agree.proofs.Serving.{lane_is, session_is}
 use Rattle.fk_agree_follow.specs.Followers.{FollowerFails, FollowerMakesItsOperation, IsFollower}
 use Rattle.fk_agree_follow.proofs.Reading.{lock_same, locked_is, owned_same, session_same}
+use Rattle.fk_agree_follow.proofs.Sketching.{locked_for, makes_for, pushes_for}
 
 -- Its session is a client's. ----------------------------------------------------------------------------
 
 pub its_task : (p : Plan) (n : ℕ) (h : List Entry) (m : Meaning) → IsHistory p h → IsFollower p n h m → task_of n h ≡ Some (Follows m.follower.session m.follower.k)
-its_task p n h m l i = follower_task p n h m.follower l i.stands
+its_task p n h m l i = follower_task p n h i.whole l i.stands ∙ ap (λ f. Some (Follows f.session f.k)) (sym i.sketched)
 
 pub its_client : (p : Plan) (n : ℕ) (h : List Entry) (m : Meaning) → IsHistory p h → IsFollower p n h m → is_client p m.follower.session ≡ true
 its_client p n h m l i = follows_a_client p n m.follower.session m.follower.k h l (its_task p n h m l i)
 
 pub its_session : (p : Plan) (n : ℕ) (h : List Entry) (m : Meaning) → IsHistory p h → IsFollower p n h m → m.follower.session ≢ 0
 its_session p n h m l i e = let a = follows_from_1 p n m.follower.session m.follower.k h l (its_task p n h m l i) in absurd (omega (arith, a, e))
+
+-- Its request, and what it pushes, are those of the rules' follower. ------------------------------------
+
+pub its_request : (p : Plan) (n : ℕ) (h : List Entry) (m : Meaning) (i : IsFollower p n h m) → request_of p i.whole.session i.whole.k h ≡ Some m.message.request
+its_request p n h m i = ap (λ f. request_of p f.session f.k h) (sym i.sketched) ∙ i.requested
+
+pub its_push : (p : Plan) (n moment : ℕ) (h : List Entry) (m : Meaning) (i : IsFollower p n h m) → push_at moment m ≡ push_with m.inv moment i.whole m.message.request
+its_push p n moment h m i = ap (λ f. push_with m.inv moment f m.message.request) i.sketched ∙ pushes_for m.inv moment m.message.request i.whole
 
 -- Where the services are calm. --------------------------------------------------------------------------
 
@@ -77,7 +88,7 @@ pub record Reads (p : Plan) (n : ℕ) (h : List Entry) (f : Follower) : Type 0 w
   pub locks : locked f ≡ in_path_order (granted n h)
 
 pub its_reads : (p : Plan) (n : ℕ) (h : List Entry) (m : Meaning) → IsHistory p h → IsFollower p n h m → Reads p n h m.follower
-its_reads p n h m l i = record { client = its_client p n h m l i; real = its_session p n h m l i; locks = locked_is p n h m.follower l i.stands }
+its_reads p n h m l i = record { client = its_client p n h m l i; real = its_session p n h m l i; locks = ap locked i.sketched ∙ (locked_for m.message.request i.whole ∙ locked_is p n h i.whole l i.stands) }
 
 passed_is : (p : Plan) (n faults : ℕ) (h : List Entry) (f : Follower) → Reads p n h f → settle.first_passed n (table_after p h faults) (locked f) ≡ first_passed n h (in_path_order (granted n h))
 passed_is p n faults h f i = passed_same p n faults h (locked f) ∙ ap (first_passed n h) i.locks
@@ -107,7 +118,8 @@ pub follower_makes_its_operation : FollowerMakesItsOperation
 follower_makes_its_operation p n h m t q u w owned l s i g =
     calm_follower p h t q (clock_of h) p.lock owned m s.table s.post
     ∙ (ap (λ z. calm_op (table_after p h t.faults) (post_after p h q.faults) (clock_of h) p.lock owned z m.follower m.follower.stage) i.inv
-    ∙ (rule_stage p n t.faults q.faults h m.follower owned m.follower.stage l (its_reads p n h m l i) (given_so p h t owned m s.table g) ∙ sym (ap (function_op p h n) i.stands)))
+    ∙ (rule_stage p n t.faults q.faults h m.follower owned m.follower.stage l (its_reads p n h m l i) (given_so p h t owned m s.table g)
+    ∙ (ap (λ f. follower_op p h n f f.stage) i.sketched ∙ (makes_for p h n m.message.request i.whole i.whole.stage ∙ sym (ap (function_op p h n) i.stands)))))
 
 -- Where the services fail. ------------------------------------------------------------------------------
 
@@ -128,4 +140,4 @@ pub follower_faults : (t : table.Meaning) (q : post.Meaning) (now time : ℕ) (o
 follower_faults t q now time owned m e = fail_stage t q now time owned m.inv m.follower m.follower.stage e
 
 pub follower_fails : FollowerFails
-follower_fails p n now time h m t q owned i = follower_faults t q now time owned m i.going ∙ (ap (λ z. op.Fault z (follower_word m.follower.stage)) i.inv ∙ sym (ap (fault_op n) i.stands))
+follower_fails p n now time h m t q owned i = follower_faults t q now time owned m i.going ∙ (ap (λ z. op.Fault z (follower_word m.follower.stage)) i.inv ∙ (ap (λ f. op.Fault n (follower_word f.stage)) i.sketched ∙ sym (ap (fault_op n) i.stands)))

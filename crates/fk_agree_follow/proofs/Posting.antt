@@ -15,6 +15,7 @@ use Rattle.fk_store.specs.declared.outcome.Outcome as store
 use Rattle.fk_follow.specs.Services.{told}
 use Rattle.fk_wire.specs.PushedText.{pushed_text}
 use Rattle.fk_wire.specs.TellText.{tell_text}
+use Rattle.fk_wire.specs.declared.message.Pushed.{Pushed}
 use Rattle.fk_wire.specs.declared.message.Tell.{Tell}
 use Rattle.fk_wire.specs.declared.version.Version.TheVariants as version
 use Rattle.fk_stand.specs.Messages as stand
@@ -41,9 +42,11 @@ pushed_elsewhere p n tx h lane.Watch e = record { none = refl; kept = refl }
 pushed_elsewhere p n tx h (lane.Session c) e = record { none = refl; kept = refl }
 pushed_elsewhere p n tx h (lane.Inbox c) e = record { none = refl; kept = refl }
 
-pub pushed_post : (p : Plan) (n tx faults : ℕ) (e : Entry) (h : List Entry) (f : Follower) (r : Request) → e.op ≡ op.Push n tx → place_of p n h ≡ Following f → request_of p f.session f.k h ≡ Some r → pushed lane.Leader (pushed_text version.Two (stand.push_with n (clock_of h) f r)) (post_after p h faults) ≡ post_after p (e ∷ h) faults
-pushed_post p n tx faults e h f r g b q =
-    letter_is_pushed p faults lane.Leader (pushed_text version.Two (stand.push_with n (clock_of h) f r)) e h refl (ap (letter_in p lane.Leader h) g ∙ ap (option_map (pushed_text version.Two)) (message_at p n tx h f r b q)) (λ y x. subst (LeavesLane p y h) (sym g) (pushed_elsewhere p n tx h y x))
+pub pushed_post : (p : Plan) (n tx faults : ℕ) (e : Entry) (h : List Entry) (f : Follower) (r : Request) (x : Pushed) → e.op ≡ op.Push n tx → place_of p n h ≡ Following f → request_of p f.session f.k h ≡ Some r → x ≡ stand.push_with n (clock_of h) f r
+    → pushed lane.Leader (pushed_text version.Two x) (post_after p h faults) ≡ post_after p (e ∷ h) faults
+pushed_post p n tx faults e h f r x g b q s =
+    ap (λ z. pushed lane.Leader (pushed_text version.Two z) (post_after p h faults)) s
+    ∙ letter_is_pushed p faults lane.Leader (pushed_text version.Two (stand.push_with n (clock_of h) f r)) e h refl (ap (letter_in p lane.Leader h) g ∙ ap (option_map (pushed_text version.Two)) (message_at p n tx h f r b q)) (λ y x. subst (LeavesLane p y h) (sym g) (pushed_elsewhere p n tx h y x))
 
 -- A reply. ----------------------------------------------------------------------------------------------
 

@@ -18,6 +18,7 @@ use Rattle.fk_stand.specs.Posts.{lane_after}
 use Rattle.fk_spec.specs.Plan.{Plan}
 use Rattle.fk_spec.specs.Start.{Follows, clock_of, request_of, seen_from, seen_with, started_in, starts_of}
 use Rattle.fk_spec.specs.Locks.{own_moment, own_moment_in}
+use Rattle.fk_spec.specs.Follower.{begin}
 use Rattle.fk_spec.specs.Function.{is_absent}
 use Rattle.fk_spec.specs.Next.{IsHistory}
 use Rattle.fk_law.specs.Due.{IsDue}
@@ -57,6 +58,8 @@ starts_on p n c k e h r l g a q w =
     record {
       inv = refl;
       going = refl;
+      whole = begin c k;
+      sketched = refl;
       stands = start_places_it p e h (record { function = n; task = Follows c k }) (ap started_in g);
       requested = request_stays p c k e h b ∙ q;
       seen = ap seen_from (sym (origin_stays c k e h b));

@@ -51,7 +51,7 @@ keeps_on : (p : Plan) (n : ℕ) (e : Entry) (h : List Entry) (m : Meaning) (x : 
 keeps_on p n e h m (stage.Commit tx) y l i a k = (message_stays p tx e h (push_at m.moment m) l k.0, k.1)
 keeps_on p n e h m stage.Lost y l i a k = k ∙ ap (λ o. kept_as (Some (Passed o))) (sym (loss_kept n h e.op (loss_of n h) a))
 keeps_on p n e h m stage.Reply y l i a k =
-    let b = subst (Answered (settled_of m.follower.session h) m.follower.k) (ap progress y) (answered_at p n h m.follower l.0 i.stands) in
+    let b = subst (Answered (settled_of m.follower.session h) m.follower.k) (ap progress y) (subst (λ f. Answered (settled_of f.session h) f.k (progress f.stage)) (sym i.sketched) (answered_at p n h i.whole l.0 i.stands)) in
     k ∙ ap kept_as (outcome_kept p m.follower.session m.follower.k e h l (was_sent p n h m l.0 i).0 b)
 keeps_on p n e h m stage.Session y l i a k = k
 keeps_on p n e h m stage.Owned y l i a k = k
@@ -68,7 +68,9 @@ others_leave_followers p n e h m l i other =
     record {
       inv = i.inv;
       going = i.going;
+      whole = i.whole;
       stands = others_leave_it p n e h l (ap is_absent i.stands) other ∙ i.stands;
+      sketched = i.sketched;
       requested = request_stays p m.follower.session m.follower.k e h b ∙ i.requested;
       seen = i.seen ∙ ap seen_from (sym (origin_stays m.follower.session m.follower.k e h b));
       written = i.written;

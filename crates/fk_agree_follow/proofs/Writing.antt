@@ -18,21 +18,24 @@ use Rattle.fk_store.specs.Locks.{is_free}
 use Rattle.fk_store.specs.Meaning as table
 use Rattle.fk_store.specs.Meaning.{lock_of}
 use Rattle.fk_store.specs.Writes.{all_written, written}
+use Rattle.fk_store.specs.declared.outcome.Outcome as store
 use Rattle.fk_store.specs.declared.outcome.Outcome.TheVariants as kept
 use Rattle.fk_store.specs.declared.write.Write.TheVariants as write
 use Rattle.fk_follow.specs.Meaning.{Meaning}
 use Rattle.fk_follow.specs.Operation.{calm_op, lock_op, locked, session_op}
-use Rattle.fk_stand.specs.Messages.{outcome_tell}
+use Rattle.fk_stand.specs.Messages.{outcome_tell, push_with}
 use Rattle.fk_follow.specs.Services.{post_after_step, push_at, stage_post, stage_table, table_after_step, taken, told}
+use Rattle.fk_follow.specs.Sketches.{follower_for}
 use Rattle.fk_wire.specs.declared.message.Tell.{Tell}
 use Rattle.fk_law_tree.proofs.Lists.{ordered_has}
 use Rattle.fk_stand.specs.Posts.{post_after}
-use Rattle.fk_stand.specs.Tables.{table_after}
+use Rattle.fk_stand.specs.Tables.{kept_as, table_after}
 use Rattle.fk_spec.specs.Plan.{Plan}
 use Rattle.fk_spec.specs.Start.{Follows, clock_of, request_of, task_of}
-use Rattle.fk_spec.specs.Locks.{granted}
+use Rattle.fk_spec.specs.Locks.{granted, loss_of}
+use Rattle.fk_spec.specs.Settling.{Passed}
 use Rattle.fk_spec.specs.Follower as stage
-use Rattle.fk_spec.specs.Follower.{Stage, commit_locked, refuse_locked}
+use Rattle.fk_spec.specs.Follower.{Follower, Stage, commit_locked, refuse_locked}
 use Rattle.fk_spec.specs.Function.{Following, follower_word, place_of}
 use Rattle.fk_spec.specs.Next.{IsHistory}
 use Rattle.fk_law.proofs.Settled.{reached}
@@ -50,6 +53,7 @@ use Rattle.fk_agree_follow.specs.Followers.{FollowerFaultIsWritten, FollowerIsWr
 use Rattle.fk_agree_follow.proofs.Making.{ack_all, by_settling, either, lock_all, made_spares, session_all, stage_makes}
 use Rattle.fk_agree_follow.proofs.Operating.{Reads, calm_follower, follower_faults, its_reads, its_task}
 use Rattle.fk_agree_follow.proofs.Posting.{pushed_post, removed_post, replied_post}
+use Rattle.fk_agree_follow.proofs.Sketching.{pushes_for}
 
 -- The table. --------------------------------------------------------------------------------------------
 
@@ -68,10 +72,17 @@ bare_table p faults e h false x s z g a b = left_table p faults e h s g b
 -- what holds of a follower
 record Works (p : Plan) (n : ℕ) (h : List Entry) (m : Meaning) : Type 0 where
   pub inv : m.inv ≡ n
-  pub stands : place_of p m.inv h ≡ Following m.follower
+  pub whole : Follower
+  pub stands : place_of p m.inv h ≡ Following whole
+  pub sketched : m.follower ≡ follower_for m.message.request whole
   pub reads : Reads p m.inv h m.follower
   pub first : 1 ≤ m.follower.k
   pub task : task_of m.inv h ≡ Some (Follows m.follower.session m.follower.k)
+
+-- what is written of its session and its request is what the rules' follower writes
+its_writes : (p : Plan) (e : Entry) (h : List Entry) (m : Meaning) (f : Follower) (o : store.Outcome) (ps : List PathNames) (a : ℕ) → m.follower ≡ follower_for m.message.request f → all_written (refuse_writes f.session f.k o ps) (table_after p h a) ≡ table_after p (e ∷ h) a
+    → all_written (refuse_writes m.follower.session m.follower.k o ps) (table_after p h a) ≡ table_after p (e ∷ h) a
+its_writes p e h m f o ps a s w = ap (λ z. all_written (refuse_writes z.session z.k o ps) (table_after p h a)) s ∙ w
 
 table_case : (p : Plan) (n a b : ℕ) (e : Entry) (h : List Entry) (m : Meaning) (owned : List PathNames) (x : Stage) → m.follower.stage ≡ x → IsHistory p (e ∷ h) → Works p n h m → Keeps p m.inv h m x
     → e.op ≡ calm_op (table_after p h a) (post_after p h b) (clock_of h) p.lock owned m.inv m.follower x → stage_table (table_after p h a) (clock_of h) p.lock m x ≡ table_after p (e ∷ h) a
@@ -85,14 +96,14 @@ table_case p n a b e h m owned (stage.Refuse r at) y l i k g =
     let ws = refuse_writes f.session f.k (kept.Refused r.code at r.place) (locked f) in
     settled_so t m.inv f.session f.k (locked f) ws i.first refl
     ∙ settled_table p a e h ((session_of t f.session).settled + 1 == f.k) (held.first_passed m.inv t (locked f)) (refuse_locked m.inv r at) (op.RefuseSettled m.inv r.code r.place at (session_of t f.session).settled) (all_written ws t) g
-    (λ o. refusal_is_written p m.inv r.place at a r.code e h f (locked f) l o i.stands (λ q. ap (has_path q) i.reads.locks ∙ ordered_has (granted m.inv h) q)) tt (λ x. tt)
+    (λ o. its_writes p e h m i.whole (kept.Refused r.code at r.place) (locked f) a i.sketched (refusal_is_written p m.inv r.place at a r.code e h i.whole (locked f) l o i.stands (λ q. ap (has_path q) i.reads.locks ∙ ordered_has (granted m.inv h) q))) tt (λ x. tt)
 table_case p n a b e h m owned (stage.Expire at) y l i k g =
     let t = table_after p h a in
     let f = m.follower in
     let ws = refuse_writes f.session f.k (kept.Refused code.SessionExpired at 0) [] in
     settled_so t m.inv f.session f.k [] ws i.first refl
     ∙ bare_table p a e h ((session_of t f.session).settled + 1 == f.k) (op.RefuseOk m.inv code.SessionExpired 0 at) (op.RefuseSettled m.inv code.SessionExpired 0 at (session_of t f.session).settled) (all_written ws t) g
-    (λ o. refusal_is_written p m.inv 0 at a code.SessionExpired e h f [] l o i.stands (λ q. ap (has_path q) (sym (expired_is_granted_nothing p m.inv at h f l.0 i.stands y)))) tt
+    (λ o. its_writes p e h m i.whole (kept.Refused code.SessionExpired at 0) [] a i.sketched (refusal_is_written p m.inv 0 at a code.SessionExpired e h i.whole [] l o i.stands (λ q. ap (has_path q) (sym (expired_is_granted_nothing p m.inv at h i.whole l.0 i.stands (ap (λ z. z.stage) (sym i.sketched) ∙ y)))))) tt
 table_case p n a b e h m owned (stage.Commit tx) y l i k g =
     let t = table_after p h a in
     let f = m.follower in
@@ -106,7 +117,7 @@ table_case p n a b e h m owned stage.Lost y l i k g =
     let ws = refuse_writes f.session f.k m.outcome [] in
     settled_so t m.inv f.session f.k [] ws i.first refl
     ∙ bare_table p a e h ((session_of t f.session).settled + 1 == f.k) (op.LostOk m.inv) (op.LostSettled m.inv (session_of t f.session).settled) (all_written ws t) g
-    (λ o. ap (λ w. all_written (refuse_writes f.session f.k w []) t) k ∙ loss_is_written p m.inv a e h f l o i.stands) tt
+    (λ o. ap (λ w. all_written (refuse_writes f.session f.k w []) t) k ∙ its_writes p e h m i.whole (kept_as (Some (Passed (loss_of m.inv h)))) [] a i.sketched (loss_is_written p m.inv a e h i.whole l o i.stands)) tt
 table_case p n a b e h m owned stage.Reply y l i k g = sym (records_stay p a e h (subst LeavesRecords (sym g) tt))
 table_case p n a b e h m owned stage.Ack y l i k g = sym (records_stay p a e h (subst LeavesRecords (sym g) (ack_all LeavesRecords m.inv m.follower.k (head_number ((post_after p h b).lanes (lane.Session m.follower.session))) tt tt)))
 table_case p n a b e h m owned stage.Ended y l i k g = sym (records_stay p a e h (subst LeavesRecords (sym g) tt))
@@ -118,7 +129,9 @@ post_case : (p : Plan) (n a b : ℕ) (e : Entry) (h : List Entry) (m : Meaning) 
 post_case p n a b e h m owned stage.Session i r k g = left_post p b e h (session_op m.inv m.follower.k (session_of (table_after p h a) m.follower.session)) g (session_all LeavesPost m.inv m.follower.k (session_of (table_after p h a) m.follower.session) tt tt tt tt tt)
 post_case p n a b e h m owned stage.Owned i r k g = left_post p b e h _ g tt
 post_case p n a b e h m owned (stage.Lock path) i r k g = left_post p b e h (lock_op (clock_of h) p.lock m.inv path (lock_of (table_after p h a) path)) g (lock_all LeavesPost (clock_of h) p.lock m.inv path (lock_of (table_after p h a) path) tt tt)
-post_case p n a b e h m owned stage.Push i r k g = pushed_post p m.inv (((post_after p h b).lanes lane.Leader).given + 1) b e h m.follower m.message.request g i.stands r
+post_case p n a b e h m owned stage.Push i r k g =
+    pushed_post p m.inv (((post_after p h b).lanes lane.Leader).given + 1) b e h i.whole m.message.request (push_at (clock_of h) m) g i.stands (ap (λ f. request_of p f.session f.k h) (sym i.sketched) ∙ r)
+    (ap (λ f. push_with m.inv (clock_of h) f m.message.request) i.sketched ∙ pushes_for m.inv (clock_of h) m.message.request i.whole)
 post_case p n a b e h m owned (stage.Refuse r at) i q k g = left_post p b e h _ g (by_settling LeavesPost ((session_of (table_after p h a) m.follower.session).settled + 1 == m.follower.k) (held.first_passed m.inv (table_after p h a) (locked m.follower)) (refuse_locked m.inv r at) (op.RefuseSettled m.inv r.code r.place at (session_of (table_after p h a) m.follower.session).settled) tt tt (λ x. tt))
 post_case p n a b e h m owned (stage.Expire at) i r k g = left_post p b e h _ g (either LeavesPost ((session_of (table_after p h a) m.follower.session).settled + 1 == m.follower.k) (op.RefuseOk m.inv code.SessionExpired 0 at) (op.RefuseSettled m.inv code.SessionExpired 0 at (session_of (table_after p h a) m.follower.session).settled) tt tt)
 post_case p n a b e h m owned (stage.Commit tx) i r k g = left_post p b e h _ g (by_settling LeavesPost ((session_of (table_after p h a) m.follower.session).settled + 1 == m.follower.k) (held.first_passed m.inv (table_after p h a) (locked m.follower)) (commit_locked m.inv tx) (op.CommitSettled m.inv tx (session_of (table_after p h a) m.follower.session).settled) tt tt (λ x. tt))
@@ -149,7 +162,9 @@ follower_is_written p n e h m t q u w owned l s i r g = record {
     so : Works p n h m
     so = record {
       inv = i.inv;
+      whole = i.whole;
       stands = ap (λ z. place_of p z h) i.inv ∙ i.stands;
+      sketched = i.sketched;
       reads = subst (λ z. Reads p z h m.follower) (sym i.inv) (its_reads p n h m l.0 i);
       first = (reached p n m.follower.session m.follower.k h l.0 (its_task p n h m l.0 i)).0;
       task = ap (λ z. task_of z h) i.inv ∙ its_task p n h m l.0 i;

@@ -16,6 +16,7 @@ use Rattle.fk_follow.specs.Meaning.{Meaning, is_ended, own_moment, started}
 use Rattle.fk_follow.specs.Next.{after_step}
 use Rattle.fk_follow.specs.Operation.{step_op}
 use Rattle.fk_follow.specs.Services.{post_after_step, push_at, table_after_step}
+use Rattle.fk_follow.specs.Sketches.{follower_for}
 use Rattle.fk_base.specs.Limits.{IsNumber}
 use Rattle.fk_wire.specs.SentText.{IsSent, IsSentText}
 use Rattle.fk_wire.specs.declared.message.Sent.{Sent}
@@ -28,7 +29,7 @@ use Rattle.fk_spec.specs.Start.{clock_of, request_of, seen_with}
 use Rattle.fk_spec.specs.Locks as rules
 use Rattle.fk_spec.specs.Locks.{loss_of}
 use Rattle.fk_spec.specs.Settling.{Passed, outcome_of}
-use Rattle.fk_spec.specs.Follower.{Stage}
+use Rattle.fk_spec.specs.Follower.{Follower, Stage}
 use Rattle.fk_spec.specs.Follower as stage
 use Rattle.fk_spec.specs.Function.{Following, actor, fault_op, function_op, place_of}
 use Rattle.fk_spec.specs.Next.{IsHistory}
@@ -43,12 +44,14 @@ Keeps p n h m stage.Reply = m.outcome ≡ kept_as (outcome_of m.follower.session
 Keeps p n h m _ = m.outcome ≡ kept.Nothing
 
 -- A follower is function n of a history: it makes its operations under that number, it hasn't ended, and it stands
--- where the history says; its message is its request as the history says, with what its client had seen; each of its
--- grants has the moment that the history says.
+-- where the history says, with what its request reads of the nodes that it was granted; its message is its request as
+-- the history says, with what its client had seen; each of its grants has the moment that the history says.
 pub record IsFollower (p : Plan) (n : ℕ) (h : List Entry) (m : Meaning) : Type 0 where
   pub inv : m.inv ≡ n
   pub going : is_ended m ≡ false
-  pub stands : place_of p n h ≡ Following m.follower
+  pub whole : Follower
+  pub stands : place_of p n h ≡ Following whole
+  pub sketched : m.follower ≡ follower_for m.message.request whole
   pub requested : request_of p m.follower.session m.follower.k h ≡ Some m.message.request
   pub seen : m.message.seen ≡ seen_with m.follower.session m.follower.k h
   pub written : IsSent m.message

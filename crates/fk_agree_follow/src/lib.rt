@@ -1,6 +1,6 @@
-//! Followers do what the rules say: where the services stand as a history says, a follower makes the operation that
-//! the rules name, goes on as they say, and leaves the services as the longer history says. Each law is the clause of
-//! a function without a body.
+//! Followers do what the rules say: where the services stand as a history says, a follower makes
+//! the operation that the rules name, goes on as they say, and leaves the services as the longer
+//! history says. Each law is the clause of a function without a body.
 #![tactic(auto)]
 
 mod followers;

@@ -4,5 +4,4 @@ pub mod Going
 pub mod Items
 pub mod Listing
 pub mod Owning
-pub mod Sketching
 pub mod Stages

@@ -7,7 +7,7 @@ pub mod Reading
 pub mod Said
 pub mod Sending
 pub mod Services
+pub mod Sketches
 pub mod Standing
 pub mod Steps
-pub mod Told
 pub mod Worked

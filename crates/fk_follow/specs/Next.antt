@@ -14,6 +14,7 @@ use Rattle.fk_spec.specs.Follower.{Follower, Granted, Stage, to_begin, to_lock}
 use Rattle.fk_spec.specs.Follower as stage
 use Rattle.fk_follow.specs.Meaning.{Meaning, own_moment}
 use Rattle.fk_follow.specs.Operation.{step_op}
+use Rattle.fk_follow.specs.Sketches.{grant_for}
 
 -- it goes on as this, without a moment and an outcome
 abbrev pub going_on : Follower → Meaning → Meaning
@@ -58,7 +59,7 @@ with_outcome s o m = record {
 abbrev pub losing : PathNames → ℕ → ℕ → Meaning → Meaning
 losing path holder moment m = with_outcome stage.Lost (kept.Lost path (own_moment path m.owns 0) holder moment) m
 
--- what the record of a path shows
+-- what the record of a path holds
 abbrev pub granted_at : table.Meaning → PathNames → Granted
 granted_at t path = record {
   path = path;
@@ -97,7 +98,7 @@ next_with t owned now (op.SessionApplied n) m = going_to stage.Ack m
 next_with t owned now (op.SessionRefused n) m = with_outcome stage.Reply (session_of t m.follower.session).outcome m
 next_with t owned now (op.SessionPast n) m = going_to stage.Ack m
 next_with t owned now (op.Owned n count) m = locking (record m.follower { owned = owned }) m
-next_with t owned now (op.LockOk n path) m = holding (granted_at t path) now m
+next_with t owned now (op.LockOk n path) m = holding (grant_for m.message.request (granted_at t path)) now m
 next_with t owned now (op.LockBusy n path holder moment) m = m
 next_with t owned now (op.Push n tx) m = committing tx now m
 next_with t owned now (op.CommitOk n tx) m = going_to stage.Ack m

@@ -4,6 +4,9 @@ use Rattle.fk_base.specs.Path.{PathNames}
 use Rattle.fk_store.specs.Answers.{AreOwned}
 use Rattle.fk_store.specs.Locks.{is_free}
 use Rattle.fk_store.specs.Meaning.{Meaning, lock_of, or_no_record}
+use Rattle.fk_tree.specs.Tree.{map_some}
+use Rattle.fk_tree.specs.declared.request.Request.{Request}
+use Rattle.fk_follow.specs.Sketches.{node_for}
 use Rattle.fk_follow.specs.declared.reading.Took.{Took}
 use Rattle.fk_follow.specs.declared.reading.Took.TheVariants as took
 use Rattle.fk_settle.specs.declared.settling.Verdict.{Verdict}
@@ -18,11 +21,15 @@ IsGiven t session (Some owned) = AreOwned t session owned
 abbrev pub unless_armed : {A : Type 0} → Meaning → A → Option A
 unless_armed t x = if t.armed then None else Some x
 
--- what becomes of taking a lock
-abbrev pub took_of : Meaning → PathNames → ℕ → ℕ → Took
-took_of t p now time =
+-- what a request reads of the record of a path
+abbrev pub granted_for : Meaning → Request → PathNames → Took
+granted_for t r p = took.Granted (map_some (node_for r) (or_no_record (t.nodes p)).node) (or_no_record (t.nodes p)).last
+
+-- what becomes of taking a lock for a request
+abbrev pub took_of : Meaning → Request → PathNames → ℕ → ℕ → Took
+took_of t r p now time =
     if t.armed then took.Failed
-    else if is_free now time (lock_of t p) then took.Granted (or_no_record (t.nodes p)).node (or_no_record (t.nodes p)).last
+    else if is_free now time (lock_of t p) then granted_for t r p
     else took.Busy (lock_of t p)
 
 -- whether a lock had passed on

@@ -1,90 +1,34 @@
 //! What a follower does after it was granted some locks.
 
-ghost use Rattle.std.specs.Prelude.{◌≡◌, length, take, IfOk};
+ghost use Rattle.std.specs.Prelude.{◌≡◌, length, IfOk};
 ghost use Rattle.fk_tree.specs.Check.{HasFewParts, check};
 ghost use Rattle.fk_tree.specs.Locks.{lock_paths};
 ghost use Rattle.fk_tree.specs.Shown.{rows_view};
-ghost use Rattle.fk_tree.specs.Tree.{map_some};
 ghost use Rattle.fk_spec.specs.Follower.{view_of};
 ghost use Rattle.fk_spec.specs.Plan.{item_after};
 ghost use Rattle.fk_follow.specs.Deciding.{decided_as, state_after};
 ghost use Rattle.fk_follow.specs.Standing.{grants_of};
-ghost use Rattle.fk_follow.specs.Told.{node_for, sketch, view_for};
 
 use crate::granted::{Granted, greatest_last};
 use crate::locking::few_lock_paths;
 use crate::own_nodes::OwnNodes;
 use crate::state::State;
-use fk_base::{Bytes, Names, NoMemory, Path};
+use fk_base::{NoMemory, Path};
 use fk_settle::closes;
-use fk_tree::{CheckFault, Node, Request, Rows};
+use fk_tree::{CheckFault, Request, Rows, copy_node};
 use fk_wire::Sent;
 use std::alloc::Global;
 
-// the first of these names alone
-fn first_name(alloc: Global, names: &Names) -> Result<Names, NoMemory>
-    ensures { IfOk result (λ n. n ≡ take 1 names.now) }
-{
-    let mut first = Names::new(alloc);
-    if let [name, ..] = names.as_slice() {
-        first.push(name.copy()?)?;
-    }
-    Ok(first)
-}
-
-// a node without its data, and with one child name at most
-fn sketch(alloc: Global, node: &Node) -> Result<Node, NoMemory>
-    ensures { IfOk result (λ n. n ≡ sketch node.now) }
-{
-    Ok(Node {
-        bytes: Bytes::new(alloc),
-        czxid: node.czxid,
-        mzxid: node.mzxid,
-        pzxid: node.pzxid,
-        ctime: node.ctime,
-        mtime: node.mtime,
-        version: node.version,
-        cversion: node.cversion,
-        made: node.made,
-        owner: node.owner,
-        names: first_name(alloc, &node.names)?,
-    })
-}
-
-// what a request reads of a node
-fn node_for(alloc: Global, request: &Request, node: &Node) -> Result<Node, NoMemory>
-    ensures { IfOk result (λ n. n ≡ node_for request.now node.now) }
-{
-    match request {
-        Request::Multi(_) => node.copy(),
-        Request::Create { .. }
-        | Request::Set { .. }
-        | Request::Delete { .. }
-        | Request::Close { .. } => sketch(alloc, node),
-    }
-}
-
-fn copy_for(alloc: Global, request: &Request, node: &Option<Node>) -> Result<Option<Node>, NoMemory>
-    ensures { IfOk result (λ n. n ≡ map_some (node_for request.now) node.now) }
-{
-    match node {
-        None => Ok(None),
-        Some(node) => Ok(Some(node_for(alloc, request, node)?)),
-    }
-}
-
-/// What a request reads of the granted records.
-#[tactic(auto, using(crate::proofs::Sketching::view_step))]
-pub fn rows_for(alloc: Global, request: &Request, granted: &[Granted]) -> Result<Rows, NoMemory>
-    ensures { IfOk result (λ rows. rows_view rows
-        ≡ view_for request.now (view_of (grants_of granted.now))) }
+/// What the granted records show.
+pub fn rows_of(alloc: Global, granted: &[Granted]) -> Result<Rows, NoMemory>
+    ensures { IfOk result (λ rows. rows_view rows ≡ view_of (grants_of granted.now)) }
 {
     let mut rows = Rows::new(alloc);
     let mut left = granted.len();
     'showing: while left > 0 {
         left -= 1;
         let lock = &granted[left];
-        rows.put(lock.path.copy()?, copy_for(alloc, request, &lock.node)?)?;
+        rows.put(lock.path.copy()?, copy_node(&lock.node)?)?;
     }
     Ok(rows)
 }
@@ -102,7 +46,6 @@ fn item_copy(paths: &[Path], place: usize) -> Result<Option<Path>, NoMemory>
 }
 
 // it pushes where the check passes on what was granted
-#[tactic(auto, using(crate::proofs::Sketching::checks))]
 fn decide(
     alloc: Global,
     session: u32,
@@ -114,7 +57,7 @@ fn decide(
     ensures { let view = view_of (grants_of granted.now) in
         IfOk result (λ s. s ≡ decided_as at (check view session request.now)) }
 {
-    let rows = rows_for(alloc, request, granted)?;
+    let rows = rows_of(alloc, granted)?;
     match rows.check(session, request) {
         Ok(()) => Ok(State::Push),
         Err(CheckFault::Refused { code, place }) => Ok(State::Refuse { code, place, at }),

@@ -1,4 +1,4 @@
-//! The locks that a follower was granted, with what their records showed.
+//! The locks that a follower was granted, with what its request reads of their records.
 
 ghost use Rattle.std.specs.Prelude.{◌≡◌, MatchOption, None, Some};
 ghost use Rattle.fk_spec.specs.Follower.{greatest_last, node_in};
@@ -13,6 +13,7 @@ use std::alloc::Global;
 #[derive(Drop)]
 pub struct Granted {
     pub path: Path,
+    /// What the follower's request reads of the node.
     pub node: Option<Node>,
     /// The last transaction that changed the node.
     pub last: u64,

@@ -12,6 +12,7 @@ mod losing;
 mod own_nodes;
 mod pushing;
 mod reading;
+mod sketching;
 mod state;
 mod stepping;
 mod taking;

@@ -23,9 +23,8 @@ ghost use Rattle.fk_queue.specs.Meaning.{posted};
 ghost use Rattle.fk_follow.specs.Services.{push_at};
 ghost use Rattle.fk_stand.specs.Messages.{gone_of};
 ghost use Rattle.fk_follow.specs.Standing.{follower_of};
-ghost use Rattle.fk_follow.specs.Told.{view_for};
 
-use crate::deciding::rows_for;
+use crate::deciding::rows_of;
 use crate::follower::Follower;
 use crate::state::State;
 use fk_base::{NoMemory, Path, Paths};
@@ -59,10 +58,9 @@ fn owned_among(alloc: Global, session: u32, rows: &Rows, paths: &[Path]) -> Resu
 
 impl Follower {
     // of the nodes that its session owned, those that a close removes
-    #[tactic(auto, unfolding(crate::specs::Standing::follower_of), using(crate::proofs::Sketching::gone_are))]
+    #[tactic(auto, unfolding(crate::specs::Standing::follower_of))]
     fn gone(&self, rows: &Rows) -> Result<Paths, NoMemory>
-        requires { rows_view rows.now ≡ view_for self.now.message.request
-            (view_of (follower_of self.now).follower.granted) }
+        requires { rows_view rows.now ≡ view_of (follower_of self.now).follower.granted }
         ensures { let f = (follower_of self.now).follower in
             IfOk result (λ ps. ps ≡ gone_of f self.now.message.request) }
     {
@@ -78,12 +76,12 @@ impl Follower {
     }
 
     /// What it pushes at a moment.
-    #[tactic(auto, unfolding(crate::specs::Standing::follower_of), using(crate::proofs::Sketching::names, crate::proofs::Sketching::versions, crate::proofs::Sketching::mades))]
+    #[tactic(auto, unfolding(crate::specs::Standing::follower_of))]
     pub(crate) fn pushed(&self, moment: u64) -> Result<Pushed, NoMemory>
         ensures { IfOk result (λ x. x ≡ push_at moment (follower_of self.now)) }
     {
         let request = &self.message.request;
-        let rows = rows_for(self.alloc, request, self.granted.as_slice())?;
+        let rows = rows_of(self.alloc, self.granted.as_slice())?;
         Ok(Pushed {
             session: self.session,
             k: self.k,

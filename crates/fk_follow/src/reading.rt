@@ -8,9 +8,11 @@ ghost use Rattle.fk_follow.specs.Fit.{IsListOf};
 ghost use Rattle.fk_follow.specs.Reading.{IsGiven, took_of, unless_armed};
 ghost use Rattle.fk_follow.specs.Services.{taken};
 
+use crate::sketching::shown_for;
 use fk_base::{NoMemory, Path, Paths};
 use fk_store::{Lock, Owned, Seen, SessionRecord, Table, Taken};
-use fk_tree::Node;
+use fk_tree::{Node, Request};
+use std::alloc::Global;
 
 /// What becomes of taking a lock.
 #[derive(Drop)]
@@ -50,26 +52,26 @@ pub fn owned_at<T: Table>(table: &mut T, session: u32) -> Result<Option<Paths>, 
     }
 }
 
-/// Takes the lock of a path.
+/// Takes the lock of a path for a request.
 pub fn take_lock<T: Table>(
+    alloc: Global,
     table: &mut T,
+    request: &Request,
     path: &Path,
     inv: u64,
     now: u64,
     lock: u64,
 ) -> Result<Took, NoMemory>
-    ensures took { IfOk result (λ r. r ≡ took_of (T.meaning table.old) path.now now lock) }
+    ensures took { let t = T.meaning table.old in
+        IfOk result (λ r. r ≡ took_of t request.now path.now now lock) }
     ensures table { let t = T.meaning table.old in
         OnOk result (T.meaning table.new ≡ taken path.now inv now lock t) }
 {
     match table.take(path, inv, now, lock) {
-        Taken::Granted(kept) => {
-            let kept = kept.copy()?;
-            Ok(Took::Granted {
-                node: kept.node,
-                last: kept.last,
-            })
-        }
+        Taken::Granted(kept) => Ok(Took::Granted {
+            node: shown_for(alloc, request, &kept.node)?,
+            last: kept.last,
+        }),
         Taken::Busy(found) => Ok(Took::Busy(found)),
         Taken::Failed => Ok(Took::Failed),
         Taken::NoMemory => Err(NoMemory),

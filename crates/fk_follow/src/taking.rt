@@ -40,7 +40,15 @@ impl Follower {
         ensures table { let t = T.meaning table.old in
             OnOk result (T.meaning table.new ≡ taken path self.old.inv now lock t) }
     {
-        match take_lock(table, &path, self.inv, now, lock)? {
+        match take_lock(
+            self.alloc,
+            table,
+            &self.message.request,
+            &path,
+            self.inv,
+            now,
+            lock,
+        )? {
             Took::Failed => Ok(self.fail(Word::Lock)),
             Took::Busy(found) => Ok(Op::LockBusy {
                 function: self.inv,
