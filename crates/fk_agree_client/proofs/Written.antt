@@ -32,8 +32,8 @@ use Rattle.fk_spec.specs.Lanes.{takes}
 use Rattle.fk_spec.specs.Client.{Client, client_in, client_of}
 use Rattle.fk_spec.specs.Watches.{watch_asked}
 use Rattle.fk_spec.specs.Next.{IsHistory}
-use Rattle.fk_law_client.specs.Operations.{OperationSays}
-use Rattle.fk_law_client.proofs.Operating.{client_operations_say}
+use Rattle.fk_law.specs.Operations.{OperationSays}
+use Rattle.fk_law.proofs.Due.{client_operations_say}
 use Rattle.fk_client.specs.Knowing.{client_known}
 use Rattle.fk_client.specs.Meaning.{Meaning, next_ask}
 use Rattle.fk_client.specs.Services.{message_of, post_by, registered_asked, registered_for, sent_asked, sent_for, table_by, user_by, watches_by}

@@ -1,6 +1,6 @@
 -- A client's turn, and one whose operation fails.
-use Rattle.std.specs.Prelude.{nat_lt, if◌then◌else◌}
-use Rattle.std.proofs.Common.{◌≡◌, ℕ, ◌+◌, Bool, true, false, List, [], ◌∷◌, refl, sym, ◌∙◌, ap, subst, arith, Option, Some, None}
+use Rattle.std.specs.Prelude.{if◌then◌else◌}
+use Rattle.std.proofs.Common.{◌≡◌, ℕ, Bool, true, false, List, [], ◌∷◌, refl, sym, ◌∙◌, ap, subst, arith, Option, Some, None}
 use Rattle.std.proofs.lemmas.Bool.{false≢true}
 use Rattle.std.proofs.lemmas.Option.{none-some}
 use Rattle.fk_print.specs.declared.entry.Entry.{Entry}
@@ -17,15 +17,10 @@ use Rattle.fk_user.specs.Meaning as user
 use Rattle.fk_watch.specs.Meaning as watches
 use Rattle.fk_watch.specs.Services.{Services}
 use Rattle.fk_stand.specs.Standing.{Standing}
-use Rattle.fk_spec.specs.Plan.{Plan, Ask, Want, Unfit, Writes, Reads, is_client, nth}
+use Rattle.fk_spec.specs.Plan.{Plan, is_client, nth}
 use Rattle.fk_spec.specs.Start.{clock_after, clock_of, started_in}
-use Rattle.fk_spec.specs.Settling.{Outcome, Committed, Refused, Passed}
-use Rattle.fk_spec.specs.Sight.{Sight, sight_of}
-use Rattle.fk_spec.specs.Lanes.{Message, Done, Evicted, Kept, Watch, Ping}
-use Rattle.fk_tree.specs.Ask.{path_asked}
-use Rattle.fk_tree.specs.Watch.{kind_asked}
 use Rattle.fk_client.specs.Shown.{lines_by}
-use Rattle.fk_spec.specs.Client.{by_result, client_of, Client, Keeping, Reading, Target, begin_asked, begin_op, client_in, client_op, failed_op, first_held, held_op, look_or, may_begin, next_asked, number_read, op_of_client, pong_or, register_asked, register_for, take_op, take_or, target_of, watch_or}
+use Rattle.fk_spec.specs.Client.{client_in, client_op, failed_op}
 use Rattle.fk_spec.specs.Function.{actor}
 use Rattle.fk_spec.specs.Schedule as schedule
 use Rattle.fk_spec.specs.Next.{IsHistory, next_entry, next_lines}
@@ -43,6 +38,7 @@ use Rattle.fk_engine.specs.Reads.{Read}
 use Rattle.fk_engine.specs.Serving.{armed, calmed}
 use Rattle.fk_engine.specs.Turning as turning
 use Rattle.fk_engine.specs.Turning.{IsTold, client_lines, client_services, clients_after, services_by, with_client}
+use Rattle.fk_law.proofs.Operating.{client_turn, turn_is_own}
 use Rattle.fk_agree.proofs.Serving.{lane_is}
 use Rattle.fk_agree_client.specs.Making.{Looks}
 use Rattle.fk_agree_client.specs.Serving.{IsFailed}
@@ -59,77 +55,6 @@ use Rattle.fk_agree_engine.proofs.Readable.{IsSilent, silent_sends, still_readab
 use Rattle.fk_agree_engine.proofs.Turning.{client_there, clients_turn, same_clients}
 
 -- The operation of a client is its own. ------------------------------------------------------------------
-
-take_own : (c : ℕ) (m : Message) → client_in (take_op c m) ≡ Some c
-take_own c (Done k tx) = refl
-take_own c (Evicted k tx) = refl
-take_own c (Kept k o) = by_outcome o
-  where
-    by_outcome : (o : Outcome) → client_in (take_op c (Kept k o)) ≡ Some c
-    by_outcome (Committed tx) = refl
-    by_outcome (Refused code place at) = refl
-    by_outcome (Passed loss) = refl
-take_own c (Watch id) = refl
-take_own c (Ping n) = refl
-
--- it is idle, or of this client
-abbrev IsOwn : ℕ → Op → Type 0
-IsOwn c o = schedule.is_idle o ≡ false → client_in o ≡ Some c
-
-own_if : (c : ℕ) (b : Bool) (x y : Op) → IsOwn c x → IsOwn c y → IsOwn c (if b then x else y)
-own_if c true x y f g = f
-own_if c false x y f g = g
-
-held_own : (c i mark : ℕ) (o : Option ℕ) → IsOwn c (held_op c i mark o)
-held_own c i mark None = λ e. refl
-held_own c i mark (Some id) = λ e. refl
-
-begin_own : (s : Sight) (i : ℕ) (closed : Bool) (w : Want) → IsOwn s.session (begin_op s i closed w)
-begin_own s i closed Unfit = λ e. refl
-begin_own s i closed (Writes r) = own_if s.session closed (op.Local s.session i) (op.Send s.session i s.next) (λ e. refl) (λ e. refl)
-begin_own s i closed (Reads q watch) = own_if s.session closed (op.Local s.session i) (op.Read s.session i (s.stamp (path_asked q))) (λ e. refl) (λ e. refl)
-
-nothing_own : (c : ℕ) → IsOwn c op.Idle
-nothing_own c e = absurd (false≢true (sym e))
-
-begins_own : {S R : Type 0} → (keep : Keeping S R) (s : Sight) (x : Client S) (a : Option Ask) → IsOwn s.session (begin_asked keep s x a)
-begins_own keep s x None = nothing_own s.session
-begins_own keep s x (Some a) = own_if s.session (may_begin keep s.asks a x.sent) (begin_op s (x.begun + 1) x.closed a.want) op.Idle (begin_own s (x.begun + 1) x.closed a.want) (nothing_own s.session)
-
-registers_own : (s : Sight) (i n : ℕ) (w : Want) → IsOwn s.session (register_for s i n w)
-registers_own s i n Unfit = nothing_own s.session
-registers_own s i n (Writes r) = nothing_own s.session
-registers_own s i n (Reads q watch) = own_if s.session (nat_lt n (s.sweep (path_asked q))) (op.WatchSwept s.session i (s.sweep (path_asked q))) (op.WatchSet s.session i (s.watch (path_asked q) (kind_asked q))) (λ e. refl) (λ e. refl)
-
-register_own : (s : Sight) (i n : ℕ) (a : Option Ask) → IsOwn s.session (register_asked s i n a)
-register_own s i n None = nothing_own s.session
-register_own s i n (Some a) = registers_own s i n a.want
-
-watch_own : {S : Type 0} → (s : Sight) (x : Client S) (r : Option Reading) (o : Op) → IsOwn s.session o → IsOwn s.session (watch_or s x r o)
-watch_own s x None o f = f
-watch_own s x (Some r) o f = register_own s (x.begun + 1) (number_read s.seen r) (next_asked s.asks x)
-
-look_own : (s : Sight) (held : List ℕ) (t : Option Target) (o : Op) → IsOwn s.session o → IsOwn s.session (look_or s held t o)
-look_own s held None o f = f
-look_own s held (Some t) o f = own_if s.session (nat_lt s.mark t.number) (op.LookBehind s.session t.command s.mark) (held_op s.session t.command s.mark (first_held s.epoch held)) (λ e. refl) (held_own s.session t.command s.mark (first_held s.epoch held))
-
-takes_own : (c : ℕ) (m : Option Message) (o : Op) → IsOwn c o → IsOwn c (take_or c m o)
-takes_own c None o f = f
-takes_own c (Some m) o f = λ e. take_own c m
-
-pong_own : (c : ℕ) (ps : List ℕ) (o : Op) → IsOwn c o → IsOwn c (pong_or c ps o)
-pong_own c [] o f = f
-pong_own c (n ∷ ps) o f = λ e. refl
-
-op_own : {S R : Type 0} → (keep : Keeping S R) (s : Sight) (x : Client S) → IsOwn s.session (op_of_client keep s x)
-op_own keep s x =
-    pong_own s.session x.owed (take_or s.session s.head (look_or s x.held (target_of keep s.seen x x.reading) (watch_or s x x.reading (begin_asked keep s x (next_asked s.asks x)))))
-    (takes_own s.session s.head (look_or s x.held (target_of keep s.seen x x.reading) (watch_or s x x.reading (begin_asked keep s x (next_asked s.asks x))))
-    (look_own s x.held (target_of keep s.seen x x.reading) (watch_or s x x.reading (begin_asked keep s x (next_asked s.asks x)))
-    (watch_own s x x.reading (begin_asked keep s x (next_asked s.asks x)) (begins_own keep s x (next_asked s.asks x)))))
-
-client_own : (p : Plan) (c : ℕ) (h : List Entry) → IsOwn c (client_op p c h)
-client_own p c h = op_own by_result (sight_of p c h) (client_of p c h)
 
 failed_own : (o : Op) → client_in (failed_op o) ≡ client_in o
 failed_own (op.Pong c n) = refl
@@ -225,7 +150,7 @@ idle_none : (p : Plan) (c : ℕ) (h : List Entry) (w : Meaning) (m : client.Mean
 idle_none p c h w m z i k b = is_none (client_op p c h) (sym (client_is_idle p c h m w.services.post z.history i k z.services.post) ∙ b)
 
 busy_own : (p : Plan) (c : ℕ) (h : List Entry) (w : Meaning) (m : client.Meaning) → IsWorld p h w → is_client p c ≡ true → IsClient p c h m → is_idle w.services.post m ≡ false → client_in (client_op p c h) ≡ Some c
-busy_own p c h w m z i k b = client_own p c h (sym (client_is_idle p c h m w.services.post z.history i k z.services.post) ∙ b)
+busy_own p c h w m z i k b = turn_is_own c (client_op p c h) (client_turn p c h) (sym (client_is_idle p c h m w.services.post z.history i k z.services.post) ∙ b)
 
 -- A turn. ------------------------------------------------------------------------------------------------
 

@@ -1,7 +1,7 @@
 ghost use Rattle.fk_agree_engine.specs.Asking.{DrainIsFit, FlightIsTheRules, NextOfDrainIsTheRules, ReadyIsFit, ReadyIsTheRules};
 
-/// A law: where an engine stands as a history says, its functions in flight, what a drain does next and which events
-/// would make an operation are what the rules say.
+/// A law: where an engine stands as a history says, its functions in flight, what a drain does next
+/// and which events would make an operation are what the rules say.
 pub fn drain_asks_the_rules()
     ensures flight { FlightIsTheRules }
     ensures next { NextOfDrainIsTheRules }

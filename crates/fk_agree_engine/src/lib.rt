@@ -1,6 +1,6 @@
-//! An engine that stands where a history says makes what the rules say: its entry at any event is the one that
-//! follows, and after it the engine stands where the longer history says. Each law is the clause of a function
-//! without a body.
+//! An engine that stands where a history says makes what the rules say: its entry at any event is
+//! the one that follows, and after it the engine stands where the longer history says. Each law is
+//! the clause of a function without a body.
 #![tactic(auto)]
 
 mod drains;

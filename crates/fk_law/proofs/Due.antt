@@ -1,24 +1,24 @@
 -- What each operation line says of the entries before it: the only place where the rule of the next entry is opened.
-use Rattle.std.proofs.Common.{◌≡◌, ℕ, ◌+◌, Bool, true, false, List, [], ◌∷◌, refl, sym, ◌∙◌, ap, subst, arith, Option, Some, None}
+use Rattle.std.proofs.Common.{◌≡◌, ℕ, ◌+◌, true, List, refl, sym, ap, subst, arith, Option, Some, None}
 use Rattle.std.specs.Prelude.{◌==◌, nat_lt, nat_le}
 use Rattle.std.proofs.lemmas.Bool.{cond_both, eqb-true, eqb-false}
 use Rattle.std.proofs.lemmas.Bool.Decides.{nat_tests}
+use Rattle.std.proofs.lemmas.Option.{same_Some}
 use Rattle.fk_base.specs.Path.{PathNames}
 use Rattle.fk_tree.specs.Check.{Refusal}
 use Rattle.fk_tree.specs.Sorted.{in_path_order}
-use Rattle.fk_tree.specs.declared.request.Request.{Request}
 use Rattle.fk_print.specs.declared.entry.Entry.{Entry}
 use Rattle.fk_print.specs.declared.event.Event.{Event}
 use Rattle.fk_print.specs.declared.event.Event.TheVariants as event
 use Rattle.fk_print.specs.declared.op.Op.{Op}
 use Rattle.fk_print.specs.declared.op.Op.TheVariants as op
-use Rattle.fk_spec.specs.Plan.{Plan, Ask, Want, Unfit, Writes, Reads, asked, asks_in}
-use Rattle.fk_spec.specs.Start.{Task, Follows, Leads, Notifies, Probes, Push, clock_of, starts_of, task_of, push_of, sends_of, written, request_in}
+use Rattle.fk_spec.specs.Plan.{Plan}
+use Rattle.fk_spec.specs.Start.{Task, Follows, Leads, Notifies, Probes, Push, clock_of, starts_of, task_of, push_of}
 use Rattle.fk_spec.specs.Locks as locks
 use Rattle.fk_spec.specs.Locks.{granted, first_passed}
-use Rattle.fk_spec.specs.Settling.{Committed, Refused, Passed, settled_of}
+use Rattle.fk_spec.specs.Settling.{settled_of}
 use Rattle.fk_spec.specs.Stored.{stored_view}
-use Rattle.fk_spec.specs.Lanes.{session_head, leader_head, watch_head, Message, Done, Evicted, Kept, Watch, Ping, inbox_of}
+use Rattle.fk_spec.specs.Lanes.{session_head, leader_head, watch_head}
 use Rattle.fk_spec.specs.Follower.{Follower, follower_op, session_op, unsettled_op, settled_op, lock_op, busy_op, commit_op, commit_locked, refuse_op, refuse_locked, expire_op, lost_op, ack_op, is_number}
 use Rattle.fk_spec.specs.Follower as follower
 use Rattle.fk_spec.specs.Leader.{leader_op, of_push, for_push, for_task}
@@ -29,10 +29,11 @@ use Rattle.fk_spec.specs.Heartbeat.{beat_op, probe_op, open_op, unanswered_op}
 use Rattle.fk_spec.specs.Pings.{Noted, noted_of, pong_of}
 use Rattle.fk_spec.specs.Heartbeat as heartbeat
 use Rattle.fk_spec.specs.Function.{Place, Absent, Following, Leading, Telling, Beating, place_of, function_op, fault_op}
-use Rattle.fk_spec.specs.Sight.{first_message, sight_of, Sight}
-use Rattle.fk_spec.specs.Client.{by_result, target_of, pong_or, take_op, take_or, held_op, look_or, register_asked, watch_or, may_begin, local_if, begin_op, begin_asked, failed_op, client_of, client_op, Sent, Reading, Client, Target}
-use Rattle.fk_spec.specs.Next.{next_op, follow_op, lead_op, tell_op, crash_op}
+use Rattle.fk_spec.specs.Client.{client_in, client_op}
+use Rattle.fk_spec.specs.Next.{names_client, next_op, follow_op, lead_op, tell_op, crash_op}
 use Rattle.fk_law.specs.Due.{IsDue, IsFollower, Commits, IsPushOf, EveryEntryIsDue}
+use Rattle.fk_law.specs.Operations.{ClientOperationsSay, OperationSays}
+use Rattle.fk_law.proofs.Operating.{client_turns, failed_due}
 
 -- A follower's. --------------------------------------------------------------------------------------
 
@@ -141,62 +142,6 @@ fault_due : (p : Plan) (h : List Entry) (n : ℕ) (x : Place) → place_of p n h
 fault_due p h n Absent e = tt
 fault_due p h n x e = grind arith
 
--- A client's. -----------------------------------------------------------------------------------------
-
-held_due : (p : Plan) (h : List Entry) (c i mark : ℕ) (o : Option ℕ) → IsDue p h (held_op c i mark o)
-held_due p h c i mark o = grind arith
-
-look_due : (p : Plan) (h : List Entry) (s : Sight) (held : List ℕ) (t : Option Target) (o : Op) → IsDue p h o → IsDue p h (look_or s held t o)
-look_due p h s held None o d = d
-look_due p h s held (Some t) o d = grind (arith, nat_tests)
-
-register_due : (p : Plan) (h : List Entry) (c i number : ℕ) (a : Option Ask) → IsDue p h (register_asked (sight_of p c h) i number a)
-register_due p h c i number a = grind (arith, nat_tests)
-
-watch_due : (p : Plan) (h : List Entry) (c : ℕ) (x : Client Sent) (r : Option Reading) (o : Op) → IsDue p h o → IsDue p h (watch_or (sight_of p c h) x r o)
-watch_due p h c x None o d = d
-watch_due p h c x (Some r) o d = register_due p h c _ _ _
-
-send_due : (p : Plan) (h : List Entry) (c i : ℕ) (closed : Bool) (a : Ask) (r : Request) → asked p c i ≡ Some a → a.want ≡ Writes r → IsDue p h (local_if closed c i (op.Send c i (sends_of c h + 1)))
-send_due p h c i true a r e w = tt
-send_due p h c i false a r e w = (refl, r, ap written e ∙ ap request_in w)
-
-begin_due : (p : Plan) (h : List Entry) (c i : ℕ) (closed : Bool) (a : Ask) (w : Want) → asked p c i ≡ Some a → a.want ≡ w → IsDue p h (begin_op (sight_of p c h) i closed w)
-begin_due p h c i closed a Unfit e f = tt
-begin_due p h c i closed a (Writes r) e f = send_due p h c i closed a r e f
-begin_due p h c i true a (Reads q watch) e f = tt
-begin_due p h c i false a (Reads q watch) e f = tt
-
-next_command_due : (p : Plan) (h : List Entry) (c : ℕ) (x : Client Sent) (a : Option Ask) → asked p c (x.begun + 1) ≡ a → IsDue p h (begin_asked by_result (sight_of p c h) x a)
-next_command_due p h c x None e = tt
-next_command_due p h c x (Some a) e = cond_both (may_begin by_result (asks_in p c) a x.sent) (begin_op (sight_of p c h) (x.begun + 1) x.closed a.want) op.Idle (IsDue p h) (λ _. begin_due p h c (x.begun + 1) x.closed a a.want e refl) (λ _. tt)
-
-message_due : (p : Plan) (h : List Entry) (c : ℕ) (m : Message) (ms : List Message) → inbox_of p c h ≡ m ∷ ms → IsDue p h (take_op c m)
-message_due p h c (Done k t) ms e = (ms, e)
-message_due p h c (Evicted k t) ms e = (ms, e)
-message_due p h c (Kept k (Passed loss)) ms e = (loss, ms, e)
-message_due p h c (Kept k (Committed t)) ms e = (Committed t, ms, e)
-message_due p h c (Kept k (Refused cd place at)) ms e = (Refused cd place at, ms, e)
-message_due p h c (Watch watch) ms e = (ms, e)
-message_due p h c (Ping ping) ms e = (ms, e)
-
-take_due : (p : Plan) (h : List Entry) (c : ℕ) (ms : List Message) (o : Op) → inbox_of p c h ≡ ms → IsDue p h o → IsDue p h (take_or c (first_message ms) o)
-take_due p h c [] o e d = d
-take_due p h c (m ∷ ms) o e d = message_due p h c m ms e
-
-pong_due : (p : Plan) (h : List Entry) (c : ℕ) (pings : List ℕ) (o : Op) → IsDue p h o → IsDue p h (pong_or c pings o)
-pong_due p h c [] o d = d
-pong_due p h c (n ∷ ns) o d = tt
-
-client_due : (p : Plan) (h : List Entry) (c : ℕ) → IsDue p h (client_op p c h)
-client_due p h c =
-    let x = client_of p c h in
-    let s = sight_of p c h in
-    pong_due p h c x.owed _ (take_due p h c (inbox_of p c h) _ refl (look_due p h s x.held (target_of by_result s.seen x x.reading) _ (watch_due p h c x x.reading _ (next_command_due p h c x (asked p c (x.begun + 1)) refl))))
-
-failed_due : (p : Plan) (h : List Entry) (o : Op) → IsDue p h o → IsDue p h (failed_op o)
-failed_due p h o d = grind arith
-
 -- Each event's. ---------------------------------------------------------------------------------------
 
 follow_due : (p : Plan) (h : List Entry) (c : ℕ) (o : Option ℕ) → session_head c h ≡ o → IsDue p h (follow_op (starts_of h + 1) c o)
@@ -215,17 +160,48 @@ crash_due : (p : Plan) (h : List Entry) (n : ℕ) (x : Place) → place_of p n h
 crash_due p h n Absent e = tt
 crash_due p h n x e = grind arith
 
-event_due : (p : Plan) (h : List Entry) (v : Event) → IsDue p h (next_op p h v)
-event_due p h (event.Client c) = client_due p h c
-event_due p h (event.Deliver c) = follow_due p h c (session_head c h) refl
-event_due p h event.Leader = lead_due p h (leader_head h) refl
-event_due p h event.Watch = tell_due p h (watch_head h) refl
-event_due p h (event.Beat c) = refl
-event_due p h (event.Step n) = function_due p h n (place_of p n h) refl
-event_due p h (event.Crash n) = crash_due p h n (place_of p n h) refl
-event_due p h (event.Fail n) = fault_due p h n (place_of p n h) refl
-event_due p h (event.FailClient c) = failed_due p h (client_op p c h) (client_due p h c)
-event_due p h (event.Clock moment) = grind (arith, nat_tests)
+event_due : (p : Plan) (h : List Entry) (v : Event) → names_client p v ≡ true → IsDue p h (next_op p h v)
+event_due p h (event.Client c) i = (client_turns p c h).0
+event_due p h (event.Deliver c) i = follow_due p h c (session_head c h) refl
+event_due p h event.Leader i = lead_due p h (leader_head h) refl
+event_due p h event.Watch i = tell_due p h (watch_head h) refl
+event_due p h (event.Beat c) i = (refl, i)
+event_due p h (event.Step n) i = function_due p h n (place_of p n h) refl
+event_due p h (event.Crash n) i = crash_due p h n (place_of p n h) refl
+event_due p h (event.Fail n) i = fault_due p h n (place_of p n h) refl
+event_due p h (event.FailClient c) i = failed_due p h (client_op p c h) (client_turns p c h).0
+event_due p h (event.Clock moment) i = grind (arith, nat_tests)
 
 pub due : EveryEntryIsDue
-due p e h l = subst (IsDue p h) (sym (ap (λ x. x.op) l.1.0)) (event_due p h e.event)
+due p e h l = subst (IsDue p h) (sym (ap (λ x. x.op) l.1.0)) (event_due p h e.event l.1.1)
+
+-- What an operation of client c says. -----------------------------------------------------------------
+
+said : (p : Plan) (c d : ℕ) (h : List Entry) (o : Op) → Some d ≡ Some c → OperationSays p d h o → OperationSays p c h o
+said p c d h o e a = subst (λ z. OperationSays p z h o) (same_Some d c e) a
+
+says : (p : Plan) (c : ℕ) (h : List Entry) (o : Op) → client_in o ≡ Some c → IsDue p h o → OperationSays p c h o
+says p c h (op.Pong d ping) e a = said p c d h (op.Pong d ping) e a
+says p c h (op.TakeDone d k t) e a = said p c d h (op.TakeDone d k t) e a.2
+says p c h (op.TakeEvicted d k t) e a = said p c d h (op.TakeEvicted d k t) e a.2
+says p c h (op.TakeRefused d k) e a = said p c d h (op.TakeRefused d k) e a.3
+says p c h (op.TakeLost d k) e a = said p c d h (op.TakeLost d k) e a.3
+says p c h (op.TakeWatch d id) e a = said p c d h (op.TakeWatch d id) e a.2
+says p c h (op.TakePing d ping) e a = said p c d h (op.TakePing d ping) e a.2
+says p c h (op.TakeFault d) e a = said p c d h (op.TakeFault d) e a
+says p c h (op.LookOk d i mark) e a = said p c d h (op.LookOk d i mark) e a
+says p c h (op.LookHeld d i mark id) e a = said p c d h (op.LookHeld d i mark id) e a
+says p c h (op.LookBehind d i mark) e a = said p c d h (op.LookBehind d i mark) e a
+says p c h (op.LookFault d i) e a = said p c d h (op.LookFault d i) e a
+says p c h (op.WatchSet d i id) e a = said p c d h (op.WatchSet d i id) e a
+says p c h (op.WatchSwept d i t) e a = said p c d h (op.WatchSwept d i t) e a
+says p c h (op.WatchFault d i) e a = said p c d h (op.WatchFault d i) e a
+says p c h (op.Send d i k) e a = said p c d h (op.Send d i k) e a.3
+says p c h (op.SendFault d i) e a = said p c d h (op.SendFault d i) e a
+says p c h (op.Read d i stamp) e a = said p c d h (op.Read d i stamp) e a
+says p c h (op.ReadFault d i) e a = said p c d h (op.ReadFault d i) e a
+says p c h (op.Local d i) e a = said p c d h (op.Local d i) e a
+says p c h o e a = tt
+
+pub client_operations_say : ClientOperationsSay
+client_operations_say p c e h l a = says p c h e.op a (due p e h l)

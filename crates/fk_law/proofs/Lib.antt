@@ -27,6 +27,7 @@ pub mod Moving
 pub mod Numbered
 pub mod Numbering
 pub mod Numbers
+pub mod Operating
 pub mod Outcomes
 pub mod Passing
 pub mod Printing

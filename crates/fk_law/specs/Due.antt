@@ -8,7 +8,7 @@ use Rattle.fk_tree.specs.declared.request.Request.{Request}
 use Rattle.fk_print.specs.declared.entry.Entry.{Entry}
 use Rattle.fk_print.specs.declared.op.Op.{Op}
 use Rattle.fk_print.specs.declared.op.Op.TheVariants as op
-use Rattle.fk_spec.specs.Plan.{Plan, asked}
+use Rattle.fk_spec.specs.Plan.{Plan, asked, is_client}
 use Rattle.fk_spec.specs.Start.{Follows, Push, clock_of, starts_of, task_of, pushes_of, push_of, sends_of, written}
 use Rattle.fk_spec.specs.Locks.{Loss, last_grant, may_grant, granted, first_passed}
 use Rattle.fk_spec.specs.Settling as settling
@@ -22,6 +22,7 @@ use Rattle.fk_spec.specs.Teller as teller
 use Rattle.fk_spec.specs.Heartbeat as heartbeat
 use Rattle.fk_spec.specs.Function.{Place, Following, Leading, Telling, Beating, place_of, is_absent}
 use Rattle.fk_spec.specs.Next.{IsHistory}
+use Rattle.fk_law.specs.Operations.{OperationSays}
 
 -- push t's function, which works on message k of session c
 pub record IsPushOf (t n c k : ℕ) (h : List Entry) : Type 0 where
@@ -91,7 +92,7 @@ IsDue p h (op.Clock moment) = clock_of h ≤ moment
 IsDue p h (op.Follower n c k) = (n ≡ starts_of h + 1) × (session_head c h ≡ Some k)
 IsDue p h (op.Leader n t) = (n ≡ starts_of h + 1) × (leader_head h ≡ Some t)
 IsDue p h (op.Teller n w) = (n ≡ starts_of h + 1) × (watch_head h ≡ Some w)
-IsDue p h (op.Beat n c) = n ≡ starts_of h + 1
+IsDue p h (op.Beat n c) = (n ≡ starts_of h + 1) × (is_client p c ≡ true)
 IsDue p h (op.Crash n) = is_absent (place_of p n h) ≡ false
 IsDue p h (op.Fault n word) = is_absent (place_of p n h) ≡ false
 IsDue p h (op.SessionNew n) = (f : Follower) × IsFollower p n h f × (f.stage ≡ follower.Session) × (settled_of f.session h + 1 ≡ f.k) × ((stored_view p h).closed f.session ≡ false)
@@ -137,13 +138,26 @@ IsDue p h (op.Ping n c) = place_of p n h ≡ Beating c heartbeat.Ping
 IsDue p h (op.NoteOk n) = (c : ℕ) × (place_of p n h ≡ Beating c heartbeat.Note)
 IsDue p h (op.NoteMiss n ping) = (c : ℕ) × (place_of p n h ≡ Beating c heartbeat.Note)
 IsDue p h (op.Evict n k) = (c : ℕ) × (place_of p n h ≡ Beating c heartbeat.Evict) × (k ≡ sends_of c h + 1)
-IsDue p h (op.Send c command k) = (k ≡ sends_of c h + 1) × (r : Request) × (written (asked p c command) ≡ Some r)
-IsDue p h (op.TakeDone c k t) = (ms : List Message) × (inbox_of p c h ≡ Done k t ∷ ms)
-IsDue p h (op.TakeEvicted c k t) = (ms : List Message) × (inbox_of p c h ≡ Evicted k t ∷ ms)
-IsDue p h (op.TakeRefused c k) = (o : Outcome) × (ms : List Message) × (inbox_of p c h ≡ Kept k o ∷ ms)
-IsDue p h (op.TakeLost c k) = (loss : Option Loss) × (ms : List Message) × (inbox_of p c h ≡ Kept k (settling.Passed loss) ∷ ms)
-IsDue p h (op.TakeWatch c watch) = (ms : List Message) × (inbox_of p c h ≡ Watch watch ∷ ms)
-IsDue p h (op.TakePing c ping) = (ms : List Message) × (inbox_of p c h ≡ Ping ping ∷ ms)
+IsDue p h (op.Send c command k) = (k ≡ sends_of c h + 1) × (r : Request) × (written (asked p c command) ≡ Some r) × OperationSays p c h (op.Send c command k)
+IsDue p h (op.TakeDone c k t) = (ms : List Message) × (inbox_of p c h ≡ Done k t ∷ ms) × OperationSays p c h (op.TakeDone c k t)
+IsDue p h (op.TakeEvicted c k t) = (ms : List Message) × (inbox_of p c h ≡ Evicted k t ∷ ms) × OperationSays p c h (op.TakeEvicted c k t)
+IsDue p h (op.TakeRefused c k) = (o : Outcome) × (ms : List Message) × (inbox_of p c h ≡ Kept k o ∷ ms) × OperationSays p c h (op.TakeRefused c k)
+IsDue p h (op.TakeLost c k) = (loss : Option Loss) × (ms : List Message) × (inbox_of p c h ≡ Kept k (settling.Passed loss) ∷ ms) × OperationSays p c h (op.TakeLost c k)
+IsDue p h (op.TakeWatch c watch) = (ms : List Message) × (inbox_of p c h ≡ Watch watch ∷ ms) × OperationSays p c h (op.TakeWatch c watch)
+IsDue p h (op.TakePing c ping) = (ms : List Message) × (inbox_of p c h ≡ Ping ping ∷ ms) × OperationSays p c h (op.TakePing c ping)
+IsDue p h (op.Pong c ping) = OperationSays p c h (op.Pong c ping)
+IsDue p h (op.TakeFault c) = OperationSays p c h (op.TakeFault c)
+IsDue p h (op.LookOk c command mark) = OperationSays p c h (op.LookOk c command mark)
+IsDue p h (op.LookHeld c command mark watch) = OperationSays p c h (op.LookHeld c command mark watch)
+IsDue p h (op.LookBehind c command mark) = OperationSays p c h (op.LookBehind c command mark)
+IsDue p h (op.LookFault c command) = OperationSays p c h (op.LookFault c command)
+IsDue p h (op.WatchSet c command watch) = OperationSays p c h (op.WatchSet c command watch)
+IsDue p h (op.WatchSwept c command t) = OperationSays p c h (op.WatchSwept c command t)
+IsDue p h (op.WatchFault c command) = OperationSays p c h (op.WatchFault c command)
+IsDue p h (op.SendFault c command) = OperationSays p c h (op.SendFault c command)
+IsDue p h (op.Read c command stamp) = OperationSays p c h (op.Read c command stamp)
+IsDue p h (op.ReadFault c command) = OperationSays p c h (op.ReadFault c command)
+IsDue p h (op.Local c command) = OperationSays p c h (op.Local c command)
 IsDue p h _ = Unit {0}
 
 -- Each entry of a history is due.

@@ -10,6 +10,7 @@ pub mod Losing
 pub mod Losses
 pub mod Numbered
 pub mod Numbering
+pub mod Operations
 pub mod Progress
 pub mod Publishing
 pub mod Pushes

@@ -1,8 +1,8 @@
 ghost use Rattle.fk_law.specs.Numbering.{CloseListsAll, ClosedSessionOwnsNothing, CommitFitsAtItsNumber, CommitsRise, LaterNumbersLeave, LivePushIsNewest};
 
-/// A law: a live push is beyond the last commit of its session and of each path that its function was
-/// granted, and each commit is beyond those before it that edited one of its paths, or were of its
-/// session.
+/// A law: a live push is beyond the last commit of its session and of each path that its function
+/// was granted, and each commit is beyond those before it that edited one of its paths, or were of
+/// its session.
 pub fn commits_rise()
     ensures live { LivePushIsNewest }
     ensures all { CommitsRise }

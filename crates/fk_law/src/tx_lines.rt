@@ -1,6 +1,7 @@
 ghost use Rattle.fk_law.specs.TxLines.{GreatestTxIsTheMark, PublishedAsCommitted, PublishedPushHasItsLine, PublishedRequestHasItsLine, StampsAreSwept, UncommittedRequestHasNoLine};
 
-/// A law: a committed push up to the mark has its transaction line, and is published as it was committed.
+/// A law: a committed push up to the mark has its transaction line, and is published as it was
+/// committed.
 pub fn published_as_committed()
     ensures line { PublishedPushHasItsLine }
     ensures same { PublishedAsCommitted }
@@ -11,8 +12,8 @@ pub fn greatest_tx_is_the_mark()
     ensures { GreatestTxIsTheMark }
 {}
 
-/// A law: a request has its transaction line where its push was committed and is at most the mark, and it
-/// has none where its outcome isn't a commit.
+/// A law: a request has its transaction line where its push was committed and is at most the mark,
+/// and it has none where its outcome isn't a commit.
 pub fn committed_requests_have_their_lines()
     ensures line { PublishedRequestHasItsLine }
     ensures none { UncommittedRequestHasNoLine }

@@ -14,8 +14,8 @@ use Rattle.fk_spec.specs.Client.{number_looked_for, by_result, is_unfit, is_writ
 use Rattle.fk_spec.specs.Replies.{verb_asked}
 use Rattle.fk_spec.specs.Next.{IsHistory}
 use Rattle.fk_law_watch.proofs.Reading.{none_sent}
-use Rattle.fk_law_client.specs.Operations.{Begins, BeginsWrite, BeginsRead, WaitsToRegister, OperationSays}
-use Rattle.fk_law_client.proofs.Operating.{client_operations_say}
+use Rattle.fk_law.specs.Operations.{Begins, BeginsWrite, BeginsRead, WaitsToRegister, OperationSays}
+use Rattle.fk_law.proofs.Due.{client_operations_say}
 
 abbrev pub IsUpTo : ℕ → Option ℕ → Type 0
 IsUpTo mark None = Unit {0}

@@ -4,7 +4,6 @@ pub mod Keeping
 pub mod Kept
 pub mod Lines
 pub mod Messages
-pub mod Operating
 pub mod Printing
 pub mod Pushed
 pub mod Seen

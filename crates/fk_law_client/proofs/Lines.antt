@@ -21,9 +21,9 @@ use Rattle.fk_spec.specs.PublicLines.{Each, lines_of, lines_onto, txs_among, txs
 use Rattle.fk_spec.specs.Next.{lines_of_client, next_lines, tx_lines}
 use Rattle.fk_law.proofs.Printing.{lines_are}
 use Rattle.fk_law_watch.proofs.Reading.{ReadSo, next_is, reads_so}
-use Rattle.fk_law_client.specs.Operations.{OperationSays}
+use Rattle.fk_law.specs.Operations.{OperationSays}
 use Rattle.fk_law_client.specs.Lines.{IsAmong, IsLookedLine, IsPublication, Ready, Looked, Answers, Failed, LineIs, LineIsAfter, EachAfter, ClientLinesAre, OtherLinesAre, kept_after}
-use Rattle.fk_law_client.proofs.Operating.{client_operations_say}
+use Rattle.fk_law.proofs.Due.{client_operations_say}
 
 -- Lines one after another. -----------------------------------------------------------------------------
 

@@ -1,7 +1,6 @@
 pub mod Inboxes
 pub mod Kept
 pub mod Lines
-pub mod Operations
 pub mod Ordering
 pub mod Refused
 pub mod Shown

@@ -1,10 +1,9 @@
-//! Laws of inboxes and clients that hold in every history that the rules allow. Each law is the clause of a
-//! function without a body.
+//! Laws of inboxes and clients that hold in every history that the rules allow. Each law is the
+//! clause of a function without a body.
 #![tactic(auto)]
 
 mod inboxes;
 mod kept_commands;
-mod operations;
 mod public_lines;
 mod refusal_numbers;
 mod replies;
@@ -14,7 +13,6 @@ mod views;
 
 pub use inboxes::inbox_messages_are_true;
 pub use kept_commands::kept_commands_have_their_source;
-pub use operations::client_operations_say;
 pub use public_lines::every_line_has_its_operation;
 pub use refusal_numbers::{mark_was_pushed, refusal_stays_at_its_number};
 pub use replies::{replies_are_in_order, unfit_commands_are_refused};

@@ -5,8 +5,8 @@ pub fn mark_was_pushed()
     ensures { MarkWasPushed }
 {}
 
-/// A law: the number of a refusal is at most that of the last push, so the refusal holds at its number in
-/// every longer history.
+/// A law: the number of a refusal is at most that of the last push, so the refusal holds at its
+/// number in every longer history.
 pub fn refusal_stays_at_its_number()
     ensures number { RefusalNumberWasPushed }
     ensures stays { RefusalHoldsInLongerHistories }

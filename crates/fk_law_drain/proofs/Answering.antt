@@ -18,9 +18,9 @@ use Rattle.fk_spec.specs.Replies.{first_line, looked_lines, own_lines, read_line
 use Rattle.fk_spec.specs.Schedule.{answers, is_answered, is_answered_in}
 use Rattle.fk_spec.specs.Next.{IsHistory}
 use Rattle.fk_law_watch.proofs.Reading.{next_is}
-use Rattle.fk_law_client.specs.Operations.{OperationSays}
+use Rattle.fk_law.specs.Operations.{OperationSays}
 use Rattle.fk_law_client.proofs.Kept.{client_after}
-use Rattle.fk_law_client.proofs.Operating.{client_operations_say}
+use Rattle.fk_law.proofs.Due.{client_operations_say}
 use Rattle.fk_law.proofs.Printing.{lines_are}
 use Rattle.fk_law_drain.specs.Answering.{keeps_command, BegunAreAnsweredOrKept}
 use Rattle.fk_base.proofs.Logic.{itself}

@@ -24,16 +24,15 @@ use Rattle.fk_spec.specs.Next.{IsHistory}
 use Rattle.fk_law.specs.Due.{IsDue, IsPushOf, Replies}
 use Rattle.fk_law.specs.Progress.{progress}
 use Rattle.fk_law.specs.Settled.{Answered}
-use Rattle.fk_law.proofs.Due.{due}
+use Rattle.fk_law.proofs.Due.{client_operations_say, due}
 use Rattle.fk_law.proofs.Outcomes.{settled_have_an_outcome}
 use Rattle.fk_law.proofs.Settled.{answered_at, reached}
 use Rattle.fk_law.proofs.Starting.{follower_task, leader_task}
 use Rattle.fk_law_client.specs.Kept.{KeptFrom, Before, Told, Begun, begun_by}
 use Rattle.fk_law_client.specs.Lines.{IsAmong, kept_after}
-use Rattle.fk_law_client.specs.Operations.{OperationSays}
+use Rattle.fk_law.specs.Operations.{OperationSays}
 use Rattle.fk_law_client.specs.Tracking.{AreTracked, IsSentSo, IsSentWith, later}
 use Rattle.fk_law_client.proofs.Kept.{among_unready, kept_commands_have_their_source}
-use Rattle.fk_law_client.proofs.Operating.{client_operations_say}
 use Rattle.fk_law_client.proofs.Tracking.{sent_tracked}
 use Rattle.fk_law_reply.specs.Plans.{HasFittingVerbs}
 use Rattle.fk_law_drain.specs.Delivering.{IsReplied, awaits_outcome, is_outcome_told, tells_outcome}

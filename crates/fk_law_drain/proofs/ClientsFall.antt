@@ -28,7 +28,7 @@ use Rattle.fk_law.proofs.Stamping.{published_are_stamped}
 use Rattle.fk_law_tree.proofs.Touching.{touch_paths}
 use Rattle.fk_law_watch.proofs.Reading.{ReadSo, reads_so}
 use Rattle.fk_law_watch.proofs.Sweeps.{last_sweep_of_a_path, swept_committed}
-use Rattle.fk_law_client.specs.Operations.{BeginsRead, LooksFor, OperationSays, WaitsToRegister}
+use Rattle.fk_law.specs.Operations.{BeginsRead, IsTurnOf, LooksFor, OperationSays, WaitsToRegister}
 use Rattle.fk_law_client.proofs.Tracking.{seen_grows}
 use Rattle.fk_law_reply.specs.Plans.{HasFittingVerbs}
 use Rattle.fk_law_reply.specs.Reads.{IsMadeRead}
@@ -37,7 +37,6 @@ use Rattle.fk_law_drain.specs.Falling.{client_weight, outcomes_of, read_left}
 use Rattle.fk_law_drain.proofs.Awaiting.{takes_now}
 use Rattle.fk_law_drain.proofs.Holding.{no_look_is_held}
 use Rattle.fk_law_drain.proofs.Looking.{committed_is_published, looked_for_is_published}
-use Rattle.fk_law_drain.proofs.Turning.{IsTurnOf}
 use Rattle.fk_base.proofs.Logic.{itself}
 use Rattle.fk_law_client.proofs.Kept.{own_client}
 use Rattle.fk_law_client.proofs.Lines.{none_sent_sought}

@@ -29,7 +29,7 @@ use Rattle.fk_law_drain.specs.Draining.{Begins, Goes, IsCalm, IsHolder, IsUnhind
 use Rattle.fk_law_drain.proofs.Choosing.{Chooses, Delivers, Leads, Steps, Tells, Turns, drain_chooses, none_stands}
 use Rattle.fk_law_drain.proofs.Delivering.{head_is}
 use Rattle.fk_law_drain.proofs.Stepping.{IsFree, NoGrant, NotAck, may_stay, not_removed, other_granted, step_calm}
-use Rattle.fk_law_drain.proofs.Turning.{client_turn, turn_is_own}
+use Rattle.fk_law.proofs.Operating.{client_turn, turn_is_own}
 use Rattle.fk_law_drain.proofs.Unhindered.{GoesOn, function_goes}
 use Rattle.fk_base.proofs.Logic.{itself}
 use Rattle.fk_law.proofs.Crashing.{crashed}

@@ -20,8 +20,7 @@ use Rattle.fk_spec.specs.Client.{client_in}
 use Rattle.fk_spec.specs.Function.{Place, Absent, Following, Leading, in_flight, place_of, placed, telling}
 use Rattle.fk_spec.specs.Next.{IsHistory, names_client}
 use Rattle.fk_law.specs.Due.{IsDue}
-use Rattle.fk_law.proofs.Due.{due}
-use Rattle.fk_law_client.proofs.Operating.{client_operations_say}
+use Rattle.fk_law.proofs.Due.{client_operations_say, due}
 use Rattle.fk_law_reply.specs.Plans.{HasFittingVerbs}
 use Rattle.fk_law_drain.specs.Draining.{IsCalm, WorksOnTheHead}
 use Rattle.fk_law_drain.specs.Falling.{DrainFalls, IsLower, client_sum, client_weight, commands_left, rank, requests_left}
@@ -30,7 +29,8 @@ use Rattle.fk_law_drain.proofs.ClientsFall.{BeginsMore, HasLess, NoSend, TurnFal
 use Rattle.fk_law_drain.proofs.Draining.{absent_is, IsIdleOp, StartsIt, client_acts, drains_are_calm, follower_starts, leader_starts, op_at, started_place, steps_on, teller_starts, turns_own, unmoved}
 use Rattle.fk_law_drain.proofs.Stepping.{not_removed, same_starts}
 use Rattle.fk_law_drain.proofs.Summing.{sum_falls, sum_same}
-use Rattle.fk_law_drain.proofs.Turning.{IsTurnOf, client_turn}
+use Rattle.fk_law.specs.Operations.{IsTurnOf}
+use Rattle.fk_law.proofs.Operating.{client_turn}
 use Rattle.fk_law_drain.proofs.StepsFall.{ByClients, ByCommands, ByFollower, ByLeader, ByTeller, Falls, NoNote, NoPush, falls, in_range, not_noted, not_pushed, parts, same_commands, same_requests, starts_no_client, step_falls, whole}
 
 -- Starts. ----------------------------------------------------------------------------------------------

@@ -23,7 +23,7 @@ use Rattle.fk_law_watch.proofs.Noting.{fired_at_its_push, note_bound}
 use Rattle.fk_law_watch.proofs.SetWatches.{fired_watch_fired_at_its_first_change}
 use Rattle.fk_law_watch.proofs.Sweeps.{swept_committed}
 use Rattle.fk_law_watch.proofs.Telling.{noted_at, removed_note_is_told, told_push_is_announced}
-use Rattle.fk_law_client.specs.Operations.{held_in_epoch}
+use Rattle.fk_law.specs.Operations.{held_in_epoch}
 use Rattle.fk_law_held.specs.Announced.{TellsOf}
 use Rattle.fk_law_held.proofs.Announcing.{inbox_tells_of_announced_watches}
 use Rattle.fk_law_drain.specs.Looking.{NoLookIsHeld}

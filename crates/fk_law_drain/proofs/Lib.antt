@@ -13,5 +13,4 @@ pub mod Looking
 pub mod Stepping
 pub mod StepsFall
 pub mod Summing
-pub mod Turning
 pub mod Unhindered

@@ -6,7 +6,7 @@ use Rattle.fk_spec.specs.Settling.{is_committed, mark_of}
 use Rattle.fk_spec.specs.Lanes.{inbox_of, leader_head, watch_head}
 use Rattle.fk_spec.specs.Client.{Target}
 use Rattle.fk_spec.specs.Next.{IsHistory}
-use Rattle.fk_law_client.specs.Operations.{held_in_epoch, target_by}
+use Rattle.fk_law.specs.Operations.{held_in_epoch, target_by}
 use Rattle.fk_law_reply.specs.Plans.{HasFittingVerbs}
 
 -- Where the leader lane is empty, each committed push is at most the mark.

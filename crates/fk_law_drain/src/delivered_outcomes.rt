@@ -1,7 +1,7 @@
 ghost use Rattle.fk_law_drain.specs.Delivering.{DonePushIsReplied, RemovedMessageIsRepliedOrCommitted};
 
-/// A law: a request whose message was removed from its session's lane is replied to, or its push isn't done
-/// yet.
+/// A law: a request whose message was removed from its session's lane is replied to, or its push
+/// isn't done yet.
 pub fn removed_message_is_replied_or_committed()
     ensures { RemovedMessageIsRepliedOrCommitted }
 {}

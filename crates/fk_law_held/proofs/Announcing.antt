@@ -20,7 +20,7 @@ use Rattle.fk_spec.specs.Next.{IsHistory}
 use Rattle.fk_spec.specs.WatchNumbers.{watch_with}
 use Rattle.fk_law.specs.Due.{IsDue}
 use Rattle.fk_law.specs.LeaderLane.{sweeps}
-use Rattle.fk_law.proofs.Due.{due}
+use Rattle.fk_law.proofs.Due.{client_operations_say, due}
 use Rattle.fk_law.proofs.Leading.{mark_behind_sweep}
 use Rattle.fk_law_watch.specs.FirstNumbers.{ReadsAreReads}
 use Rattle.fk_law_watch.specs.Noting.{is_told}
@@ -32,10 +32,9 @@ use Rattle.fk_law_watch.proofs.Listing.{has_is, set_number_has}
 use Rattle.fk_law_watch.proofs.Reading.{ReadSo, reads_so}
 use Rattle.fk_law_watch.proofs.SetWatches.{by_or, set_or_fired_were_given, watch_is_set_or_fired, firing_never_changes}
 use Rattle.fk_law_watch.proofs.Telling.{announced_has_fired, newly_fired, told_push_is_announced}
-use Rattle.fk_law_client.specs.Operations.{OperationSays}
+use Rattle.fk_law.specs.Operations.{OperationSays}
 use Rattle.fk_law_client.proofs.Kept.{client_after, own_client}
 use Rattle.fk_law_client.proofs.Lines.{read_sought}
-use Rattle.fk_law_client.proofs.Operating.{client_operations_say}
 use Rattle.fk_law_reply.proofs.Finding.{reading_after}
 use Rattle.fk_law_held.specs.Announced.{TellsOf, InboxTellsOfAnnouncedWatches, LookPassesNoHeldWatch, WaitingReadIsClean}
 use Rattle.fk_law_held.specs.Held.{HeldChange, Left, Emptied, Dropped, Added, fired_watch, known_watch}

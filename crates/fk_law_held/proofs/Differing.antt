@@ -24,7 +24,7 @@ use Rattle.fk_spec.specs.Client.{acted_by, client_in, client_of, contains, numbe
 use Rattle.fk_spec.specs.Next.{IsHistory}
 use Rattle.fk_spec.specs.WatchNumbers.{watch_with}
 use Rattle.fk_law.specs.Due.{IsDue}
-use Rattle.fk_law.proofs.Due.{due}
+use Rattle.fk_law.proofs.Due.{client_operations_say, due}
 use Rattle.fk_law_watch.specs.FirstNumbers.{ReadsAreReads}
 use Rattle.fk_law_watch.specs.Registering.{IsRegistration, number_from, number_of_read}
 use Rattle.fk_law_watch.specs.SetWatches.{set_watch}
@@ -32,10 +32,9 @@ use Rattle.fk_law_watch.proofs.Listing.{append_with, kept_watch}
 use Rattle.fk_law_watch.proofs.SetWatches.{fired_watch_fired_at_its_first_change, set_watches_differ, watches_unique, or_stays}
 use Rattle.fk_law_watch.proofs.Sweeps.{last_most}
 use Rattle.fk_law_watch.proofs.Telling.{announced_has_fired}
-use Rattle.fk_law_client.specs.Operations.{OperationSays}
+use Rattle.fk_law.specs.Operations.{OperationSays}
 use Rattle.fk_law_client.proofs.Kept.{client_after, own_client}
 use Rattle.fk_law_client.proofs.Messages.{inbox_messages}
-use Rattle.fk_law_client.proofs.Operating.{client_operations_say}
 use Rattle.fk_law_client.proofs.Tracking.{first_true}
 use Rattle.fk_law_reply.proofs.Finding.{reading_after}
 use Rattle.fk_law_held.specs.Announced.{HeldWatchesDiffer, WaitingReadRegisters}

@@ -23,10 +23,10 @@ use Rattle.fk_spec.specs.Next.{IsHistory}
 use Rattle.fk_law.proofs.Printing.{lines_are}
 use Rattle.fk_law_watch.proofs.Reading.{next_is}
 use Rattle.fk_law_client.specs.Lines.{IsAmong, kept_after}
-use Rattle.fk_law_client.specs.Operations.{OperationSays}
+use Rattle.fk_law.specs.Operations.{OperationSays}
 use Rattle.fk_law_client.proofs.Kept.{client_after, own_client}
 use Rattle.fk_law_client.proofs.Lines.{client_lines_are, other_lines_are}
-use Rattle.fk_law_client.proofs.Operating.{client_operations_say}
+use Rattle.fk_law.proofs.Due.{client_operations_say}
 use Rattle.fk_law_reply.specs.Plans.{HasFittingVerbs}
 use Rattle.fk_law_held.specs.Held.{known_watch}
 use Rattle.fk_law_held.specs.Matching.{HeldByLinesIsHeld, Matches}

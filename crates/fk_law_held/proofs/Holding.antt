@@ -25,9 +25,9 @@ use Rattle.fk_law_watch.specs.SetWatches.{IsOneOfTwo, first_of, registered_in, s
 use Rattle.fk_law_watch.proofs.Listing.{AreUnique, append_with, fired_one, fires_watch, has_is, set_number_has, stays_set}
 use Rattle.fk_law_watch.proofs.Registering.{watches_are_registered}
 use Rattle.fk_law_watch.proofs.SetWatches.{firing_never_changes, or_stays, set_or_fired_were_given, watch_is_set_or_fired, watches_unique}
-use Rattle.fk_law_client.specs.Operations.{OperationSays}
+use Rattle.fk_law.specs.Operations.{OperationSays}
 use Rattle.fk_law_client.proofs.Kept.{client_after}
-use Rattle.fk_law_client.proofs.Operating.{client_operations_say}
+use Rattle.fk_law.proofs.Due.{client_operations_say}
 use Rattle.fk_law_held.specs.Held.{HeldChange, Left, Emptied, Dropped, Added, IsAccountedFor, HeldWatchesAreAccountedFor, ClosedClientsHoldNothing, fired_watch, known_watch}
 use Rattle.fk_law_held.proofs.Changing.{held_change, with_has, without_has}
 use Rattle.fk_base.proofs.Logic.{itself}

@@ -43,9 +43,9 @@ use Rattle.fk_law_watch.specs.SetWatches.{first_of, registered_in, set_watch}
 use Rattle.fk_law_watch.proofs.SetWatches.{or_stays}
 use Rattle.fk_law_client.specs.Kept.{WasTold, KeptFrom, Before, Told, Begun, begun_by}
 use Rattle.fk_law_client.specs.Lines.{EachAfter, IsAmong, IsPublication, LineIsAfter, kept_after}
-use Rattle.fk_law_client.specs.Operations.{OperationSays}
+use Rattle.fk_law.specs.Operations.{OperationSays}
 use Rattle.fk_law_client.proofs.Kept.{among_unready, client_after, kept_commands_have_their_source, own_client}
-use Rattle.fk_law_client.proofs.Operating.{client_operations_say}
+use Rattle.fk_law.proofs.Due.{client_operations_say}
 use Rattle.fk_law_reply.specs.Plans.{HasFittingVerbs}
 use Rattle.fk_law_held.specs.Held.{HeldChange, Left, Emptied, Dropped, Added, fired_watch, known_watch}
 use Rattle.fk_law_held.specs.Matching.{Matches}

@@ -33,9 +33,9 @@ use Rattle.fk_spec.specs.Next.{IsHistory}
 use Rattle.fk_law.proofs.Printing.{lines_are}
 use Rattle.fk_law_watch.proofs.Reading.{next_is}
 use Rattle.fk_law_client.specs.Lines.{EachAfter, IsPublication, kept_after}
-use Rattle.fk_law_client.specs.Operations.{OperationSays}
+use Rattle.fk_law.specs.Operations.{OperationSays}
 use Rattle.fk_law_client.proofs.Lines.{each_mapped, each_onto, other_lines_are, read_sought}
-use Rattle.fk_law_client.proofs.Operating.{client_operations_say}
+use Rattle.fk_law.proofs.Due.{client_operations_say}
 use Rattle.fk_law_reply.specs.Plans.{HasFittingVerbs}
 use Rattle.fk_law_reply.proofs.ClosedClients.{first_sought, sought_shown}
 use Rattle.fk_law_held.specs.Firings.{NoReadPassesAHeldWatch}

@@ -10,8 +10,8 @@ pub fn inbox_tells_of_announced_watches()
     ensures { InboxTellsOfAnnouncedWatches }
 {}
 
-/// A law: at a look that is ok, and while a read waits for its registration, each held watch that has fired
-/// did so beyond the mark, or beyond the read's number.
+/// A law: at a look that is ok, and while a read waits for its registration, each held watch that
+/// has fired did so beyond the mark, or beyond the read's number.
 pub fn looks_pass_no_held_watch()
     ensures look { LookPassesNoHeldWatch }
     ensures waiting { WaitingReadIsClean }

@@ -1,5 +1,5 @@
-//! Laws of the watches that clients hold, in every history that the rules allow. Each law is the clause of a
-//! function without a body.
+//! Laws of the watches that clients hold, in every history that the rules allow. Each law is the
+//! clause of a function without a body.
 #![tactic(auto)]
 
 mod announced_watches;

@@ -31,7 +31,7 @@ use Rattle.fk_spec.specs.Client.{acted_by, by_result, client_in, client_of, clos
 use Rattle.fk_spec.specs.Replies.{first_line, looked_lines, own_lines, reply_line, reply_lines, shown_applied, shown_reply, shown_result, wording}
 use Rattle.fk_spec.specs.Next.{IsHistory}
 use Rattle.fk_law.specs.Due.{IsDue, IsPushOf}
-use Rattle.fk_law.proofs.Due.{due}
+use Rattle.fk_law.proofs.Due.{client_operations_say, due}
 use Rattle.fk_law.proofs.Growing.{numbers_never_fall}
 use Rattle.fk_law.proofs.Outcomes.{outcome_is_of_a_settled}
 use Rattle.fk_law.proofs.Publishing.{of_push}
@@ -43,11 +43,10 @@ use Rattle.fk_law_watch.proofs.Reading.{next_is}
 use Rattle.fk_law_client.specs.Inboxes.{IsPublishedPush}
 use Rattle.fk_law_client.specs.Kept.{KeptFrom, Before, Told, Begun, begun_by}
 use Rattle.fk_law_client.specs.Lines.{IsAmong, kept_after}
-use Rattle.fk_law_client.specs.Operations.{OperationSays}
+use Rattle.fk_law.specs.Operations.{OperationSays}
 use Rattle.fk_law_client.specs.Tracking.{IsTrueResult}
 use Rattle.fk_law_client.proofs.Kept.{among_unready, client_after, kept_commands_have_their_source}
 use Rattle.fk_law_client.proofs.Messages.{inbox_messages}
-use Rattle.fk_law_client.proofs.Operating.{client_operations_say}
 use Rattle.fk_law_client.proofs.Seen.{seen_published}
 use Rattle.fk_law_client.proofs.Tracking.{first_true, seen_grows, sent_tracked}
 use Rattle.fk_law_reply.specs.ClosedClients.{IsClosedAt, ClosedClientsAreRight, KnownClosed, ExpiredMetAClosedSession, ExpiredByAnOperation}

@@ -31,11 +31,10 @@ use Rattle.fk_law.proofs.Stamping.{final_below_the_sweep}
 use Rattle.fk_law.proofs.TxLines.{greatest_tx_is_the_mark, published_request_has_its_line}
 use Rattle.fk_law_client.specs.Inboxes.{IsPublishedPush}
 use Rattle.fk_law_client.specs.Lines.{IsAmong, IsReadyLine, IsLookedLine, IsAnswerLine, IsFailedLine, IsPublication, ReplyIs, Ready, Looked, Answers, Failed, LineIsAfter, kept_after, EachAfter, IsExpiry}
-use Rattle.fk_law_client.specs.Operations.{BeginsRead, OperationSays, WaitsToRegister}
+use Rattle.fk_law.specs.Operations.{BeginsRead, OperationSays, WaitsToRegister}
 use Rattle.fk_law_client.specs.Tracking.{IsTrueResult}
 use Rattle.fk_law_client.proofs.Lines.{client_lines_are, each_mapped, other_lines_are}
 use Rattle.fk_law_client.proofs.Messages.{published_push_stays, inbox_messages}
-use Rattle.fk_law_client.proofs.Operating.{client_operations_say}
 use Rattle.fk_law_client.proofs.Seen.{seen_published}
 use Rattle.fk_law_client.proofs.Tracking.{acted_tracked, sent_tracked, first_true}
 use Rattle.fk_law_reply.specs.ClosedClients.{KnownClosed}
@@ -47,7 +46,7 @@ use Rattle.fk_law_reply.proofs.ClosedClients.{expired_by_an_operation, known_sta
 use Rattle.fk_law_reply.proofs.Finding.{reads_show_the_tree}
 use Rattle.fk_law_reply.proofs.Ledger.{begun_never_falls, cause_stays, commands_of_an_operation_are_entered, its_message, kept_commands_are_entered, message_stays, sent_number_never_changes, tracked_among}
 use Rattle.fk_law.specs.Due.{IsDue}
-use Rattle.fk_law.proofs.Due.{due}
+use Rattle.fk_law.proofs.Due.{client_operations_say, due}
 use Rattle.fk_spec.specs.Lanes.{Evicted, inbox_of}
 use Rattle.fk_law_reply.proofs.Evicting.{eviction_is_of_a_late_heartbeat}
 use Rattle.fk_base.proofs.Logic.{itself}

@@ -27,9 +27,9 @@ use Rattle.fk_law.proofs.TxLines.{stamps_are_swept}
 use Rattle.fk_law.proofs.Printing.{lines_are}
 use Rattle.fk_law_watch.specs.FirstNumbers.{ReadsAreReads}
 use Rattle.fk_law_watch.proofs.Reading.{ReadSo, client_unseen, next_is, none_unseen, reads_so, looked_read, lines_by, cons_nil}
-use Rattle.fk_law_client.specs.Operations.{BeginsRead, OperationSays}
+use Rattle.fk_law.specs.Operations.{BeginsRead, OperationSays}
 use Rattle.fk_law_client.proofs.Acting.{begins_to_read}
-use Rattle.fk_law_client.proofs.Operating.{client_operations_say}
+use Rattle.fk_law.proofs.Due.{client_operations_say}
 use Rattle.fk_law_client.proofs.Seen.{seen_published}
 use Rattle.fk_law_client.proofs.Tracking.{none_unanswered}
 use Rattle.fk_law_reply.specs.Reads.{IsMadeRead, ReadsShowTheTree}

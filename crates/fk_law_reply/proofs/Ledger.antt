@@ -19,12 +19,12 @@ use Rattle.fk_spec.specs.Promises.{sent_as, sent_as_in}
 use Rattle.fk_spec.specs.Refusals.{fails_send, has_failed_send, seen_at, seen_at_in}
 use Rattle.fk_spec.specs.Next.{IsHistory}
 use Rattle.fk_law.proofs.Sending.{origin_stays, request_never_changes, request_was_sent}
-use Rattle.fk_law_client.specs.Operations.{BeginsWrite, OperationSays}
+use Rattle.fk_law.specs.Operations.{BeginsWrite, OperationSays}
 use Rattle.fk_law_client.specs.Lines.{IsAmong, kept_after}
 use Rattle.fk_law_client.specs.Tracking.{AreTracked, IsTrueResult, later}
 use Rattle.fk_law_client.specs.Kept.{KeptFrom, Before, Told, Begun, begun_by}
 use Rattle.fk_law_client.proofs.Kept.{client_after, among_unready, kept_commands_have_their_source}
-use Rattle.fk_law_client.proofs.Operating.{client_operations_say}
+use Rattle.fk_law.proofs.Due.{client_operations_say}
 use Rattle.fk_law_reply.specs.Ledger.{BegunNeverFalls, OnlyBegunWereSent, SentNumberNeverChanges, HasOwnCause, IsEntered, IsMessage, KeptCommandsAreEntered, CommandsOfAnOperationAreEntered, message_number}
 use Rattle.fk_base.proofs.Logic.{itself}
 

@@ -1,5 +1,5 @@
-//! Laws of what clients are answered, in every history that the rules allow. Each law is the clause of a
-//! function without a body.
+//! Laws of what clients are answered, in every history that the rules allow. Each law is the clause
+//! of a function without a body.
 #![tactic(auto)]
 
 mod closed_clients;

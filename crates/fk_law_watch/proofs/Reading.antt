@@ -1,36 +1,29 @@
--- A client's read is made while no command is unanswered, and is looked at before turned_some watch is set.
-use Rattle.std.specs.Prelude.{◌==◌, nat_lt, if◌then◌else◌, max}
+-- A client's read is made while no command is unanswered, and is looked at before a watch is set.
+use Rattle.std.specs.Prelude.{◌==◌, if◌then◌else◌, max}
 use Rattle.std.proofs.Common.{◌≡◌, ℕ, ◌+◌, ◌≤◌, ◌++◌, Bool, true, false, List, [], ◌∷◌, refl, sym, ◌∙◌, ap, subst, arith, Option, Some, None}
-use Rattle.std.proofs.lemmas.Bool.{false≢true, cond_both, ltb-false}
+use Rattle.std.proofs.lemmas.Bool.{false≢true, cond_both}
 use Rattle.std.proofs.lemmas.Bool.Decides.{nat_tests}
 use Rattle.std.proofs.lemmas.Option.{same_Some, none-some}
-use Rattle.fk_tree.specs.Ask.{path_asked}
-use Rattle.fk_tree.specs.Watch.{kind_asked}
-use Rattle.fk_tree.specs.declared.request.Query.{Query}
 use Rattle.fk_tree.specs.declared.applied.Applied.{Applied}
 use Rattle.fk_print.specs.declared.entry.Entry.{Entry}
-use Rattle.fk_print.specs.declared.event.Event.{Event}
-use Rattle.fk_print.specs.declared.event.Event.TheVariants as event
 use Rattle.fk_print.specs.declared.line.Line.{Line}
 use Rattle.fk_print.specs.declared.line.Line.TheVariants as line
 use Rattle.fk_print.specs.declared.op.Op.{Op}
 use Rattle.fk_print.specs.declared.op.Op.TheVariants as op
-use Rattle.fk_spec.specs.Plan.{Plan, Ask, Want, Unfit, Writes, Reads, asked, asks_in}
+use Rattle.fk_spec.specs.Plan.{Plan, asked, asks_in}
 use Rattle.fk_spec.specs.Shown.{seen_by, seen_in, seen_lines}
-use Rattle.fk_spec.specs.Start.{starts_of, sends_of}
-use Rattle.fk_spec.specs.Settling.{Outcome, Committed, Refused, Passed, mark_of, mark_in}
-use Rattle.fk_spec.specs.Stored.{committed_as, stamp_of}
-use Rattle.fk_spec.specs.Watches.{Firing, firing_of, last_sweep}
-use Rattle.fk_spec.specs.Lanes.{session_head, leader_head, watch_head, Message, Done, Evicted, Kept, Watch, Ping}
-use Rattle.fk_spec.specs.Function.{place_of, function_op, fault_op}
-use Rattle.fk_spec.specs.Sight.{watch_number, sight_of, Sight}
-use Rattle.fk_spec.specs.Client.{by_result, without_ready, ready_first, registers, is_close, is_write, number_read, target_sent, target_of, pong_or, take_op, take_or, contains, held_op, look_op, look_or, register_for, register_asked, watch_or, all_go_on, is_none_sent, may_begin, local_if, begin_op, begin_asked, failed_op, settle_with, close_if, looked_for, looked_at, flushed, kept_outcome, settled_as, acted_by, client_in, client_by, client_of, client_op, Sent, Reading, Client, Target}
+use Rattle.fk_spec.specs.Settling.{Outcome, mark_of, mark_in}
+use Rattle.fk_spec.specs.Stored.{committed_as}
+use Rattle.fk_spec.specs.Watches.{Firing, firing_of}
+use Rattle.fk_spec.specs.Sight.{sight_of, Sight}
+use Rattle.fk_spec.specs.Client.{by_result, without_ready, ready_first, registers, is_close, is_write, target_sent, target_of, contains, all_go_on, is_none_sent, settle_with, close_if, looked_for, looked_at, flushed, kept_outcome, settled_as, acted_by, client_in, client_by, client_of, Sent, Reading, Client, Target}
 use Rattle.fk_spec.specs.Replies.{reply_line, reply_lines, first_line, read_line, read_lines, looked_lines, notice_of, own_lines, wording, client_lines}
-use Rattle.fk_spec.specs.Next.{IsHistory, next_op, next_lines, lines_of_client, tx_lines, follow_op, lead_op, tell_op, crash_op}
+use Rattle.fk_spec.specs.Next.{IsHistory, next_lines, lines_of_client, tx_lines}
+use Rattle.fk_law.specs.Operations.{BeginsRead, OperationSays}
+use Rattle.fk_law.proofs.Due.{client_operations_say}
 use Rattle.fk_law.proofs.Leading.{mark_grows}
 use Rattle.fk_law_watch.specs.FirstNumbers.{ReadsAreReads, WatchesAreSetUpToTheMark}
 use Rattle.fk_law_watch.specs.Registering.{number_from, number_of_read}
-use Rattle.fk_law_watch.proofs.Registering.{NoClients, function_none, follow_none, lead_none, tell_none, crash_none, fault_none}
 
 -- What a client's operations say of it. ----------------------------------------------------------------
 
@@ -50,29 +43,8 @@ ActsAs x seen mark (op.Local c i) = x.reading ≡ None
 ActsAs x seen mark (op.Read c i s) = x.sent ≡ []
 ActsAs x seen mark _ = Unit {0}
 
--- and it is of client c
-abbrev Acts : Client Sent → ℕ → ℕ → ℕ → Op → Type 0
-Acts x seen mark c o = ActsAs x seen mark o × ((d : ℕ) → client_in o ≡ Some d → d ≡ c)
-
-pub turned_some : (c d : ℕ) → Some c ≡ Some d → d ≡ c
-turned_some c d e = grind arith
-
 pub cons_nil : (s : Sent) (ss : List Sent) → s ∷ ss ≡ [] → ⊥
 cons_nil s ss e = grind arith
-
-held_acts : (x : Client Sent) (seen mark c i m : ℕ) (o : Option ℕ) → IsLookedAt x seen mark → Acts x seen mark c (held_op c i m o)
-held_acts x seen mark c i m None b = (b, turned_some c)
-held_acts x seen mark c i m (Some id) b = (tt, turned_some c)
-
-look_acts : (s : Sight) (x : Client Sent) (seen : ℕ) (held : List ℕ) (t : Target) → (t.number ≤ s.mark → IsLookedAt x seen s.mark) → Acts x seen s.mark s.session (look_op s held t)
-look_acts s x seen held t b = cond_both (nat_lt s.mark t.number) (op.LookBehind s.session t.command s.mark) (held_op s.session t.command s.mark _) (Acts x seen s.mark s.session) (λ _. (tt, turned_some s.session)) (λ e. held_acts x seen s.mark s.session t.command s.mark _ (b (ltb-false s.mark t.number e)))
-
-target_acts : (s : Sight) (x : Client Sent) (seen : ℕ) (held : List ℕ) (t : Option Target) (o : Op) → (t ≡ None → Acts x seen s.mark s.session o) → ((u : Target) → t ≡ Some u → u.number ≤ s.mark → IsLookedAt x seen s.mark) → Acts x seen s.mark s.session (look_or s held t o)
-target_acts s x seen held None o d b = d refl
-target_acts s x seen held (Some t) o d b = look_acts s x seen held t (b t refl)
-
-idle_acts : (x : Client Sent) (seen mark c : ℕ) → Acts x seen mark c op.Idle
-idle_acts x seen mark c = (tt, λ d e. absurd (none-some d e))
 
 -- what is looked for while nothing is unanswered is the read's number
 target_read : (s : Sight) (x : Client Sent) (r : Option Reading) (t : Target) → x.reading ≡ r → target_of by_result s.seen x r ≡ Some t → t.number ≤ s.mark → IsLookedAt x s.seen s.mark
@@ -89,117 +61,30 @@ target_read s x r t e q b = λ z f g. by_look z (sym e ∙ f) g (subst (λ y. ta
         by_flag true v = absurd (by_sent x.sent g v)
         by_flag false v = subst (λ y. y.number ≤ s.mark) (sym (same_Some (record { command = x.begun + 1; number = max s.seen z.stamp }) t v)) b
 
--- a read for which nothing is looked for was looked at
-read_looked : (s : Sight) (x : Client Sent) (r : Reading) → target_of by_result s.seen x (Some r) ≡ None → r.looked ≡ true
-read_looked s x r q = by_flag r.looked refl q
-  where
-    by_flag : (b : Bool) → r.looked ≡ b → (if b then target_sent by_result x.sent else Some (record { command = x.begun + 1; number = max s.seen r.stamp })) ≡ None → r.looked ≡ true
-    by_flag true e v = e
-    by_flag false e v = absurd (none-some (record { command = x.begun + 1; number = max s.seen r.stamp }) (sym v))
-
-register_acts : (p : Plan) (h : List Entry) (x : Client Sent) (seen mark c i number : ℕ) (a : Option Ask) → WasLookedAt x → Acts x seen mark c (register_asked (sight_of p c h) i number a)
-register_acts p h x seen mark c i number None w = idle_acts x seen mark c
-register_acts p h x seen mark c i number (Some a) w = wanted a.want
-  where
-    wanted : (v : Want) → Acts x seen mark c (register_for (sight_of p c h) i number v)
-    wanted (Reads q b) = cond_both (nat_lt number (last_sweep p (path_asked q) h)) (op.WatchSwept c i (last_sweep p (path_asked q) h)) (op.WatchSet c i (watch_number p c h (path_asked q) (kind_asked q))) (Acts x seen mark c) (λ _. (tt, turned_some c)) (λ _. (w, turned_some c))
-    wanted Unfit = idle_acts x seen mark c
-    wanted (Writes r) = idle_acts x seen mark c
-
-local_acts : (x : Client Sent) (seen mark c i : ℕ) (closed : Bool) (o : Op) → x.reading ≡ None → Acts x seen mark c o → Acts x seen mark c (local_if closed c i o)
-local_acts x seen mark c i true o e a = (e, turned_some c)
-local_acts x seen mark c i false o e a = a
-
 pub none_sent : (ss : List Sent) → is_none_sent ss ≡ true → ss ≡ []
 none_sent [] e = refl
 none_sent (s ∷ ss) e = absurd (false≢true e)
 
-begin_acts : (p : Plan) (h : List Entry) (x : Client Sent) (seen mark c i : ℕ) (closed : Bool) (w : Want) → x.reading ≡ None → ((q : Query) (b : Bool) → w ≡ Reads q b → x.sent ≡ []) → Acts x seen mark c (begin_op (sight_of p c h) i closed w)
-begin_acts p h x seen mark c i closed Unfit e f = (e, turned_some c)
-begin_acts p h x seen mark c i closed (Writes r) e f = local_acts x seen mark c i closed (op.Send c i (sends_of c h + 1)) e (e, turned_some c)
-begin_acts p h x seen mark c i closed (Reads q b) e f = local_acts x seen mark c i closed (op.Read c i (stamp_of (path_asked q) h)) e (f q b refl, turned_some c)
-
-next_acts : (p : Plan) (h : List Entry) (x : Client Sent) (seen mark c : ℕ) (a : Option Ask) → ReadsAreReads p → asked p c (x.begun + 1) ≡ a → x.reading ≡ None → Acts x seen mark c (begin_asked by_result (sight_of p c h) x a)
-next_acts p h x seen mark c None k q e = idle_acts x seen mark c
-next_acts p h x seen mark c (Some a) k q e =
-    cond_both (may_begin by_result (asks_in p c) a x.sent) (begin_op (sight_of p c h) (x.begun + 1) x.closed a.want) op.Idle (Acts x seen mark c)
-    (λ b. begin_acts p h x seen mark c (x.begun + 1) x.closed a.want e (λ v w f. none_sent x.sent (shown (is_write a.verb) (k c (x.begun + 1) a v w q f) b)))
-    (λ _. idle_acts x seen mark c)
+-- a read is begun while nothing is unanswered
+reads_alone : (p : Plan) (c i : ℕ) (h : List Entry) → ReadsAreReads p → BeginsRead p c i h → (client_of p c h).sent ≡ []
+reads_alone p c i h k b = none_sent (client_of p c h).sent (shown (is_write b.begins.ask.verb) (k c i b.begins.ask b.query b.watch b.begins.is_asked b.reads) b.begins.allowed)
   where
-    shown : (b : Bool) → b ≡ false → (if b then all_go_on by_result (asks_in p c) x.sent else is_none_sent x.sent) ≡ true → is_none_sent x.sent ≡ true
+    shown : (w : Bool) → w ≡ false → (if w then all_go_on by_result (asks_in p c) (client_of p c h).sent else is_none_sent (client_of p c h).sent) ≡ true → is_none_sent (client_of p c h).sent ≡ true
     shown true f g = absurd (false≢true (sym f))
     shown false f g = g
 
-watch_acts : (p : Plan) (h : List Entry) (x : Client Sent) (c : ℕ) (r : Option Reading) → ReadsAreReads p → x.reading ≡ r → ((s : Reading) → r ≡ Some s → s.looked ≡ true) → Acts x (seen_by c h) (mark_of h) c (watch_or (sight_of p c h) x r (begin_asked by_result (sight_of p c h) x (asked p c (x.begun + 1))))
-watch_acts p h x c None k e f = next_acts p h x (seen_by c h) (mark_of h) c (asked p c (x.begun + 1)) k refl e
-watch_acts p h x c (Some r) k e f = register_acts p h x (seen_by c h) (mark_of h) c (x.begun + 1) (number_read (seen_by c h) r) (asked p c (x.begun + 1)) (λ s a _. f s (sym e ∙ a))
-
-message_acts : (x : Client Sent) (seen mark c : ℕ) (m : Message) → Acts x seen mark c (take_op c m)
-message_acts x seen mark c (Done k t) = (tt, turned_some c)
-message_acts x seen mark c (Evicted k t) = (tt, turned_some c)
-message_acts x seen mark c (Kept k (Passed loss)) = (tt, turned_some c)
-message_acts x seen mark c (Kept k (Committed t)) = (tt, turned_some c)
-message_acts x seen mark c (Kept k (Refused cd place at)) = (tt, turned_some c)
-message_acts x seen mark c (Watch watch) = (tt, turned_some c)
-message_acts x seen mark c (Ping ping) = (tt, turned_some c)
-
-take_acts : (x : Client Sent) (seen mark c : ℕ) (m : Option Message) (o : Op) → Acts x seen mark c o → Acts x seen mark c (take_or c m o)
-take_acts x seen mark c None o d = d
-take_acts x seen mark c (Some m) o d = message_acts x seen mark c m
-
-pong_acts : (x : Client Sent) (seen mark c : ℕ) (pings : List ℕ) (o : Op) → Acts x seen mark c o → Acts x seen mark c (pong_or c pings o)
-pong_acts x seen mark c [] o d = d
-pong_acts x seen mark c (n ∷ ns) o d = (tt, turned_some c)
-
-looked_acts : (p : Plan) (c : ℕ) (h : List Entry) (x : Client Sent) → ReadsAreReads p → (r : Option Reading) → x.reading ≡ r → target_of by_result (seen_by c h) x r ≡ None → Acts x (seen_by c h) (mark_of h) c (watch_or (sight_of p c h) x r (begin_asked by_result (sight_of p c h) x (asked p c (x.begun + 1))))
-looked_acts p c h x k None e q = watch_acts p h x c None k e (λ s a. absurd (none-some s a))
-looked_acts p c h x k (Some r) e q = watch_acts p h x c (Some r) k e (λ s a. subst (λ z. z.looked ≡ true) (same_Some r s a) (read_looked (sight_of p c h) x r q))
-
-client_acts : (p : Plan) (c : ℕ) (h : List Entry) → ReadsAreReads p → Acts (client_of p c h) (seen_by c h) (mark_of h) c (client_op p c h)
-client_acts p c h k =
-    let x = client_of p c h in
-    let s = sight_of p c h in
-    let t = target_of by_result s.seen x x.reading in
-    let o = watch_or s x x.reading (begin_asked by_result s x (asked p c (x.begun + 1))) in
-    let l = look_or s x.held t o in
-    pong_acts x (seen_by c h) (mark_of h) c x.owed (take_or c s.head l) (take_acts x (seen_by c h) (mark_of h) c s.head l
-    (target_acts s x (seen_by c h) x.held t o (looked_acts p c h x k x.reading refl) (λ u. target_read s x x.reading u refl)))
-
-pub failed_in : (o : Op) (d : ℕ) → client_in (failed_op o) ≡ Some d → client_in o ≡ Some d
-failed_in o d e = grind arith
-
-failed_as : (x : Client Sent) (seen mark : ℕ) (o : Op) → ActsAs x seen mark o → ActsAs x seen mark (failed_op o)
-failed_as x seen mark (op.Send c i k) a = a
-failed_as x seen mark (op.SendFault c i) a = a
-failed_as x seen mark (op.Local c i) a = a
-failed_as x seen mark o a = tt
-
--- Entries. --------------------------------------------------------------------------------------------
-
-no_client_acts : (x : Client Sent) (seen mark c : ℕ) (o : Op) → NoClients o → ActsAs x seen mark o
-no_client_acts x seen mark c (op.WatchSet d i id) a = absurd a
-no_client_acts x seen mark c (op.LookOk d i m) a = absurd a
-no_client_acts x seen mark c (op.Send d i k) a = absurd a
-no_client_acts x seen mark c (op.SendFault d i) a = absurd a
-no_client_acts x seen mark c (op.Local d i) a = absurd a
-no_client_acts x seen mark c (op.Read d i s) a = absurd a
-no_client_acts x seen mark c o a = tt
+acts_as : (p : Plan) (c : ℕ) (h : List Entry) (o : Op) → ReadsAreReads p → OperationSays p c h o → ActsAs (client_of p c h) (seen_by c h) (mark_of h) o
+acts_as p c h (op.LookOk d i m) k a = target_read (sight_of p c h) (client_of p c h) (client_of p c h).reading (record { command = i; number = a.0.number }) refl a.0.target a.2
+acts_as p c h (op.WatchSet d i id) k a = λ r e _. subst (λ z. z.looked ≡ true) (same_Some a.0.reading r (sym a.0.made ∙ e)) a.0.looked
+acts_as p c h (op.Send d i n) k a = a.0.begins.reads_nothing
+acts_as p c h (op.SendFault d i) k a = a.begins.reads_nothing
+acts_as p c h (op.Local d i) k a = a.0.reads_nothing
+acts_as p c h (op.Read d i s) k a = reads_alone p c i h k a.0
+acts_as p c h o k a = tt
 
 -- an operation of client c says this of it
-event_acts : (p : Plan) (c : ℕ) (h : List Entry) (v : Event) → ReadsAreReads p → client_in (next_op p h v) ≡ Some c → ActsAs (client_of p c h) (seen_by c h) (mark_of h) (next_op p h v)
-event_acts p c h (event.Client d) k e = let a = client_acts p d h k in subst (λ z. ActsAs (client_of p z h) (seen_by z h) (mark_of h) (client_op p d h)) (sym (a.1 c e)) a.0
-event_acts p c h (event.FailClient d) k e = let a = client_acts p d h k in subst (λ z. ActsAs (client_of p z h) (seen_by z h) (mark_of h) (failed_op (client_op p d h))) (sym (a.1 c (failed_in (client_op p d h) c e))) (failed_as (client_of p d h) (seen_by d h) (mark_of h) (client_op p d h) a.0)
-event_acts p c h (event.Deliver d) k e = no_client_acts (client_of p c h) (seen_by c h) (mark_of h) c (follow_op (starts_of h + 1) d (session_head d h)) (follow_none (starts_of h + 1) d (session_head d h))
-event_acts p c h event.Leader k e = no_client_acts (client_of p c h) (seen_by c h) (mark_of h) c (lead_op (starts_of h + 1) (leader_head h)) (lead_none (starts_of h + 1) (leader_head h))
-event_acts p c h event.Watch k e = no_client_acts (client_of p c h) (seen_by c h) (mark_of h) c (tell_op (starts_of h + 1) (watch_head h)) (tell_none (starts_of h + 1) (watch_head h))
-event_acts p c h (event.Beat d) k e = tt
-event_acts p c h (event.Step n) k e = no_client_acts (client_of p c h) (seen_by c h) (mark_of h) c (function_op p h n (place_of p n h)) (function_none p h n (place_of p n h))
-event_acts p c h (event.Crash n) k e = no_client_acts (client_of p c h) (seen_by c h) (mark_of h) c (crash_op n (place_of p n h)) (crash_none n (place_of p n h))
-event_acts p c h (event.Fail n) k e = no_client_acts (client_of p c h) (seen_by c h) (mark_of h) c (fault_op n (place_of p n h)) (fault_none n (place_of p n h))
-event_acts p c h (event.Clock m) k e = tt
-
 entry_acts : (p : Plan) (c : ℕ) (e : Entry) (h : List Entry) → ReadsAreReads p → IsHistory p (e ∷ h) → client_in e.op ≡ Some c → ActsAs (client_of p c h) (seen_by c h) (mark_of h) e.op
-entry_acts p c e h k l a = let q = ap (λ x. x.op) l.1.0 in subst (ActsAs (client_of p c h) (seen_by c h) (mark_of h)) (sym q) (event_acts p c h e.event k (ap client_in (sym q) ∙ a))
+entry_acts p c e h k l a = acts_as p c h e.op k (client_operations_say p c e h l a)
 
 -- What a line shows to other clients. ------------------------------------------------------------------
 
@@ -260,7 +145,7 @@ none_unseen p h c n o e = ap (λ s. seen_lines c (lines_of_client p h o s) n) e
 
 -- A client's read. -------------------------------------------------------------------------------------
 
--- while a read is made no command is unanswered, and once it was looked at turned_some number is published
+-- while a read is made no command is unanswered, and once it was looked at its number is published
 abbrev pub ReadSo : List Sent → ℕ → ℕ → Option Reading → Type 0
 ReadSo sent seen mark None = Unit {0}
 ReadSo sent seen mark (Some r) = (sent ≡ []) × (r.looked ≡ true → max seen r.stamp ≤ mark)
@@ -287,7 +172,7 @@ looked_read p c (s ∷ ss) x = closing (is_close (asked p c s.command))
 no_read : (ss : List Sent) (seen mark : ℕ) (r : Option Reading) → r ≡ None → ReadSo ss seen mark r
 no_read ss seen mark r e = subst (ReadSo ss seen mark) (sym e) tt
 
--- what client c prints with turned_some own operation, standing so
+-- what client c prints with its own operation, standing so
 abbrev pub lines_by : Plan → List Entry → ℕ → Client Sent → Op → List Line
 lines_by p h c x o = own_lines (wording p c h) (sight_of p c h) x o ++ reply_lines (wording p c h) (ready_first by_result (acted_by (sight_of p c h) o x).sent)
 

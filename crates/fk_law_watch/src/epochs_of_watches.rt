@@ -1,7 +1,7 @@
 ghost use Rattle.fk_law_watch.specs.Epochs.{EpochHasFired, LeaderHoldsACompleteEpoch, UntoldFiredWatchIsInTheEpoch};
 
-/// A law: a leader before a put or its publication holds an epoch of fired watches, which is complete as
-/// long as its push isn't published.
+/// A law: a leader before a put or its publication holds an epoch of fired watches, which is
+/// complete as long as its push isn't published.
 pub fn leader_holds_a_complete_epoch()
     ensures { LeaderHoldsACompleteEpoch }
 {}

@@ -30,8 +30,8 @@ pub fn set_watch_saw_no_change()
     ensures { SetWatchSawNoChange }
 {}
 
-/// A law: a watch fires at the first swept push beyond its first number that changes what it takes, with
-/// the first such change.
+/// A law: a watch fires at the first swept push beyond its first number that changes what it takes,
+/// with the first such change.
 pub fn fired_watch_fired_at_its_first_change()
     ensures { FiredWatchFiredAtItsFirstChange }
 {}

@@ -104,3 +104,23 @@ OperationSays p c h _ = Unit {0}
 -- Each operation of a client says so.
 abbrev pub ClientOperationsSay : Type 0
 ClientOperationsSay = (p : Plan) (c : ℕ) (e : Entry) (h : List Entry) → IsHistory p (e ∷ h) → client_in e.op ≡ Some c → OperationSays p c h e.op
+
+-- Nothing, or an operation of client c that doesn't fail.
+abbrev pub IsTurnOf : ℕ → Op → Type 0
+IsTurnOf c op.Idle = Unit {0}
+IsTurnOf c (op.Pong d ping) = d ≡ c
+IsTurnOf c (op.TakeDone d k t) = d ≡ c
+IsTurnOf c (op.TakeEvicted d k t) = d ≡ c
+IsTurnOf c (op.TakeRefused d k) = d ≡ c
+IsTurnOf c (op.TakeLost d k) = d ≡ c
+IsTurnOf c (op.TakeWatch d watch) = d ≡ c
+IsTurnOf c (op.TakePing d ping) = d ≡ c
+IsTurnOf c (op.LookOk d i mark) = d ≡ c
+IsTurnOf c (op.LookBehind d i mark) = d ≡ c
+IsTurnOf c (op.LookHeld d i mark watch) = d ≡ c
+IsTurnOf c (op.Send d i k) = d ≡ c
+IsTurnOf c (op.Read d i stamp) = d ≡ c
+IsTurnOf c (op.WatchSet d i watch) = d ≡ c
+IsTurnOf c (op.WatchSwept d i t) = d ≡ c
+IsTurnOf c (op.Local d i) = d ≡ c
+IsTurnOf c _ = ⊥

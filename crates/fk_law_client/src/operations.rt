@@ -1,6 +1,0 @@
-ghost use Rattle.fk_law_client.specs.Operations.{ClientOperationsSay};
-
-/// A law: what each operation of a client says of the client, of its next command and of what it looks for.
-pub fn client_operations_say()
-    ensures { ClientOperationsSay }
-{}
