@@ -1,5 +1,6 @@
-//! What services hold says the same as the rules: laws that tie what `fk_stand` says of the services after a
-//! history to what the rules of a history read. Each law is the clause of a function without a body.
+//! What services hold says the same as the rules: laws that tie what `fk_stand` says of the
+//! services after a history to what the rules of a history read. Each law is the clause of a
+//! function without a body.
 #![tactic(auto)]
 
 mod lanes;

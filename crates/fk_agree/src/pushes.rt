@@ -1,13 +1,14 @@
 ghost use Rattle.fk_agree.specs.Pushes.{LivePushIsItsMessage, MessageNeverChanges, MessageTellsItsPush, PushHasItsMessage, PushIsItsCommit};
 
-/// A law: what the message of a push applies is what the push was committed as, and, where it can still
-/// commit, what the commits would fill it as now.
+/// A law: what the message of a push applies is what the push was committed as, and, where it can
+/// still commit, what the commits would fill it as now.
 pub fn push_is_its_commit()
     ensures committed { PushIsItsCommit }
     ensures live { LivePushIsItsMessage }
 {}
 
-/// A law: the message of a push tells its function, its request, and the paths that its function was granted.
+/// A law: the message of a push tells its function, its request, and the paths that its function
+/// was granted.
 pub fn message_tells_its_push()
     ensures { MessageTellsItsPush }
 {}

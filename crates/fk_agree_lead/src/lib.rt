@@ -1,6 +1,6 @@
-//! Leaders do what the rules say: where the services stand as a history says, each makes the operation that the
-//! rules name, goes on as they say, and leaves the services as the longer history says. Each law is the clause of a
-//! function without a body.
+//! Leaders do what the rules say: where the services stand as a history says, each makes the
+//! operation that the rules name, goes on as they say, and leaves the services as the longer
+//! history says. Each law is the clause of a function without a body.
 #![tactic(auto)]
 
 mod leaders;

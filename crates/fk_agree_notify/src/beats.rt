@@ -5,14 +5,15 @@ pub fn beat_starts()
     ensures { BeatStarts }
 {}
 
-/// A law: a heartbeat makes the operation that the rules name, and the fault that they name where the services fail.
+/// A law: a heartbeat makes the operation that the rules name, and the fault that they name where
+/// the services fail.
 pub fn beat_makes_its_operation()
     ensures op { BeatMakesItsOperation }
     ensures fault { BeatFails }
 {}
 
-/// A law: after its operation a heartbeat stands where the rules say, or has ended where they say so; the lines of
-/// others leave it.
+/// A law: after its operation a heartbeat stands where the rules say, or has ended where they say
+/// so; the lines of others leave it.
 pub fn beat_goes_on()
     ensures own { BeatGoesOn }
     ensures others { OthersLeaveBeats }

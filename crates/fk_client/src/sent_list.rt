@@ -11,8 +11,8 @@ use std::alloc::Global;
 use std::collections::VecDeque;
 use std::marker::Model;
 
-/// The commands, which it means, in the order in which they were begun. A call takes constant time where
-/// what is told comes in that order.
+/// The commands, which it means, in the order in which they were begun. A call takes constant time
+/// where what is told comes in that order.
 #[derive(Drop)]
 pub struct SentList {
     items: VecDeque<Unanswered>,
@@ -32,8 +32,8 @@ impl Model for SentList {
     ghost invariant = { λ l. AreTold l.told l.items.items };
 }
 
-// the place of the first open command that was sent under this number, where these many in front are
-// told
+// the place of the first open command that was sent under this number, where these many in front
+// are told
 #[tactic(auto, using(crate::proofs::Telling::told_passed, crate::proofs::Telling::told_within, crate::proofs::Telling::place_step, crate::proofs::Telling::place_end))]
 fn place_of(items: &VecDeque<Unanswered>, told: usize, k: u64) -> usize
     requires { AreTold told items.now.items }
@@ -136,7 +136,8 @@ impl SentList {
         first
     }
 
-    /// The command that was sent under a number, where nothing is known of it yet, has this outcome.
+    /// The command that was sent under a number, where nothing is known of it yet, has this
+    /// outcome.
     pub fn settle(&mut self, k: u64, outcome: Outcome)
         ensures { self.new ≡ with_told by_outcome k outcome self.old }
     {

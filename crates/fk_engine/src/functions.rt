@@ -127,8 +127,9 @@ impl Functions {
         self.numbers.remove(number);
     }
 
-    /// A function makes its next operation on the services at a time, where it is in flight; once it
-    /// makes no more it isn't. After `NoMemory` neither these nor the services are to be used further.
+    /// A function makes its next operation on the services at a time, where it is in flight; once
+    /// it makes no more it isn't. After `NoMemory` neither these nor the services are to be used
+    /// further.
     #[tactic(auto, unfolding(crate::specs::FlightsStanding::functions_of))]
     pub fn step<T: Table>(
         &mut self,

@@ -1,6 +1,6 @@
 //! The engine: the past, the clock, the functions in flight, the clients and the four services
-//! under one roof. Each event makes one operation on what is there. What that is, and what everything
-//! means after it, stands in `specs/`, in the words of the services and of the machines.
+//! under one roof. Each event makes one operation on what is there. What that is, and what
+//! everything means after it, stands in `specs/`, in the words of the services and of the machines.
 #![tactic(auto)]
 
 mod delivering;

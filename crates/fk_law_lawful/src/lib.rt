@@ -1,4 +1,5 @@
-//! Every history that the rules allow is lawful. Each law is the clause of a function without a body.
+//! Every history that the rules allow is lawful. Each law is the clause of a function without a
+//! body.
 #![tactic(auto)]
 
 mod lawful_histories;

@@ -1,5 +1,5 @@
-//! Laws of schedules: a deployment has one run, and whether a history follows a schedule can be computed. Each law is
-//! the clause of a function without a body.
+//! Laws of schedules: a deployment has one run, and whether a history follows a schedule can be
+//! computed. Each law is the clause of a function without a body.
 #![tactic(auto)]
 
 mod computed_schedules;

@@ -7,9 +7,9 @@ ghost use Rattle.fk_limits.specs.Deployments.{AsksAreLimited, AsksAreReadable, C
 
 pub use turns::turns_are_within_limits;
 
-/// A law: the request of each command, and of each message that a session's lane is given, is within the limits
-/// of messages, and the message is read back; a client has at most 2,048 commands, and there are at most 64
-/// clients.
+/// A law: the request of each command, and of each message that a session's lane is given, is
+/// within the limits of messages, and the message is read back; a client has at most 2,048
+/// commands, and there are at most 64 clients.
 pub fn deployments_ask_within_limits()
     ensures asks { AsksAreLimited }
     ensures requests { RequestsAreLimited }

@@ -19,8 +19,8 @@ use std::time::Duration;
 /// How long a worker rests, in microseconds, where its event came to nothing.
 const REST: u64 = 200;
 
-/// Whether the last event came to nothing: a function met a lock, or a client has to be told something
-/// first. The same event would come to nothing again until another one changes that.
+/// Whether the last event came to nothing: a function met a lock, or a client has to be told
+/// something first. The same event would come to nothing again until another one changes that.
 fn is_stalled<T: Table>(world: &World<T>) -> bool {
     match world.history().as_slice().last() {
         None => false,
@@ -51,8 +51,8 @@ impl<T: Table> Cloud<T> {
         })
     }
 
-    /// The event that a worker is to make, at this moment of a clock outside; it waits where there is
-    /// none now, and gets none where the world is quiet.
+    /// The event that a worker is to make, at this moment of a clock outside; it waits where there
+    /// is none now, and gets none where the world is quiet.
     pub fn choose<R: Wait>(&self, rt: &R, worker: u32, now: u64) -> Result<Option<Event>, NoMemory>
         requires first { 1 ≤ worker }
         requires last { worker ≤ 16 }
@@ -75,9 +75,9 @@ impl<T: Table> Cloud<T> {
         unreachable!()
     }
 
-    /// Makes the event that a worker has picked, and wakes one of those that wait. Where the event came
-    /// to nothing it wakes none and rests a little, so that the worker doesn't make it again and again
-    /// while another is about to change that.
+    /// Makes the event that a worker has picked, and wakes one of those that wait. Where the event
+    /// came to nothing it wakes none and rests a little, so that the worker doesn't make it again
+    /// and again while another is about to change that.
     pub fn make<R: Wait>(&self, rt: &R, worker: u32, event: &Event) -> Result<(), NoMemory>
         requires first { 1 ≤ worker }
         requires last { worker ≤ 16 }

@@ -55,10 +55,10 @@ impl<T: Table> Desk<T> {
         Ok(Desk { world, workers })
     }
 
-    /// Which event a worker makes next, at this moment of a clock outside: the one that it has picked
-    /// and not made; else a step of the function in flight that it started; else the first that would
-    /// make an operation and that no other worker has. After `NoMemory` no event is picked anew, and
-    /// the world is spent.
+    /// Which event a worker makes next, at this moment of a clock outside: the one that it has
+    /// picked and not made; else a step of the function in flight that it started; else the first
+    /// that would make an operation and that no other worker has. After `NoMemory` no event is
+    /// picked anew, and the world is spent.
     pub fn pick(&mut self, worker: u32, now: u64) -> Result<Pick, NoMemory>
         requires first { 1 ≤ worker }
         requires last { worker ≤ 16 }
@@ -85,8 +85,8 @@ impl<T: Table> Desk<T> {
         Ok(choice)
     }
 
-    /// Makes the event where it is the one that the worker has picked, and tells whether it is. After
-    /// `NoMemory` the world is spent, and the picked events are as before.
+    /// Makes the event where it is the one that the worker has picked, and tells whether it is.
+    /// After `NoMemory` the world is spent, and the picked events are as before.
     pub fn make(&mut self, worker: u32, event: &Event) -> Result<bool, NoMemory>
         requires first { 1 ≤ worker }
         requires last { worker ≤ 16 }

@@ -1,5 +1,5 @@
-//! The clients on threads: which event each worker makes next, and what they make of one world. What
-//! happens is said of a desk, whose calls a lock lets in one by one.
+//! The clients on threads: which event each worker makes next, and what they make of one world.
+//! What happens is said of a desk, whose calls a lock lets in one by one.
 #![tactic(auto)]
 
 mod choosing;

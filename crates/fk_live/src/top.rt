@@ -17,9 +17,10 @@ use std::alloc::Global;
 use std::sync::Wait;
 use std::thread::Threads;
 
-/// Reads the words and a deployment file without schedule, plays it by workers on threads and writes
-/// the history; the answer is an exit status. After 0 `played` holds the world that was played. The
-/// clock of the history follows `clock`; each worker passes `gate` before it makes an event.
+/// Reads the words and a deployment file without schedule, plays it by workers on threads and
+/// writes the history; the answer is an exit status. After 0 `played` holds the world that was
+/// played. The clock of the history follows `clock`; each worker passes `gate` before it makes an
+/// event.
 ///
 /// The statuses, the first that fits: 64 words that aren't accepted, 66 a read fault, 65 an input
 /// that is too long or has a line that offends, 74 a write fault, 71 want of memory, 0 else.

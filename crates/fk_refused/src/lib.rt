@@ -1,5 +1,5 @@
-//! Histories that are refused: each is a worked run with one thing changed, and breaks one promise or the schedule.
-//! Each is the clause of a function without a body.
+//! Histories that are refused: each is a worked run with one thing changed, and breaks one promise
+//! or the schedule. Each is the clause of a function without a body.
 #![tactic(auto)]
 
 mod evicted_sessions;

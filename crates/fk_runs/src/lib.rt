@@ -1,5 +1,5 @@
-//! Worked runs: each is what the rules give at its events, follows its schedule, and ends with all answered.
-//! Definitions and their evaluation alone; nothing stands on this crate.
+//! Worked runs: each is what the rules give at its events, follows its schedule, and ends with all
+//! answered. Definitions and their evaluation alone; nothing stands on this crate.
 #![tactic(auto)]
 
 mod command_limits;

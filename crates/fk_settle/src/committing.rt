@@ -24,8 +24,11 @@ pub fn commit<T: Table>(
 ) -> Result<Verdict, NoMemory>
     requires first { 1 ≤ push.now.k }
     requires session { is_some ((T.meaning table.old).sessions push.now.session) ≡ true }
-    ensures verdict { IfOk result (λ v. v ≡ verdict_of (T.meaning table.old) push.now.session push.now.k push.now.inv (in_path_order push.now.paths)) }
-    ensures table { OnOk result (T.meaning table.new ≡ committed tx push.now (T.meaning table.old)) }
+    ensures verdict { let paths = in_path_order push.now.paths in
+        IfOk result (λ v. v ≡ verdict_of (T.meaning table.old)
+        push.now.session push.now.k push.now.inv paths) }
+    ensures table { OnOk result (T.meaning table.new
+        ≡ committed tx push.now (T.meaning table.old)) }
 {
     let paths = in_order(alloc, push.paths.as_slice())?;
     let writes = commit_writes(alloc, tx, push, paths.as_slice())?;

@@ -25,7 +25,8 @@ pub enum Verdict {
     Failed,
 }
 
-/// Request k is the session's next to settle, and the locks of these paths are held by the invocation.
+/// Request k is the session's next to settle, and the locks of these paths are held by the
+/// invocation.
 pub fn settle_conds(
     alloc: Global,
     session: u32,
@@ -49,7 +50,8 @@ pub fn settle_conds(
 
 // the path whose condition has this place
 fn path_at(paths: &[Path], place: usize) -> Option<&Path>
-    ensures { MatchOption result (path_from 1 place paths.now ≡ None) (λ p. path_from 1 place paths.now ≡ Some p.now) }
+    ensures { let at = path_from 1 place paths.now in
+        MatchOption result (at ≡ None) (λ p. at ≡ Some p.now) }
 {
     'seeking: for (before, path) in paths.iter().enumerate() {
         if place == before + 1 {
@@ -91,8 +93,11 @@ pub fn settle<T: Table>(
     requires first { 1 ≤ k }
     requires session { is_some ((T.meaning table.old).sessions session) ≡ true }
     requires writes { are_fit_writes (T.meaning table.old) writes.now ≡ true }
-    ensures verdict { IfOk result (λ v. v ≡ verdict_of (T.meaning table.old) session k inv paths.now) }
-    ensures table { OnOk result (T.meaning table.new ≡ transacted (settle_conds session k inv paths.now) writes.now (T.meaning table.old)) }
+    ensures verdict { let t = T.meaning table.old in
+        IfOk result (λ v. v ≡ verdict_of t session k inv paths.now) }
+    ensures table { let conds = settle_conds session k inv paths.now in
+        OnOk result (T.meaning table.new
+        ≡ transacted conds writes.now (T.meaning table.old)) }
 {
     let conds = settle_conds(alloc, session, k, inv, paths)?;
     match table.transact(conds.as_slice(), writes) {

@@ -17,7 +17,8 @@ fn push_changes(
     moment: u64,
     edits: &[Edit],
 ) -> Result<(), NoMemory>
-    ensures { OnOk result (writes.new.items ≡ writes.old.items ++ change_writes tx moment edits.now) }
+    ensures { OnOk result (writes.new.items
+        ≡ writes.old.items ++ change_writes tx moment edits.now) }
 {
     'changing: for edit in edits {
         writes.push(Write::Change {
@@ -50,7 +51,8 @@ pub fn closes(request: &Request) -> bool
 }
 
 fn push_close(writes: &mut Vec<Write>, session: u32, request: &Request) -> Result<(), NoMemory>
-    ensures { OnOk result (writes.new.items ≡ writes.old.items ++ close_writes session request.now) }
+    ensures { OnOk result (writes.new.items
+        ≡ writes.old.items ++ close_writes session request.now) }
 {
     if closes(request) {
         writes.push(Write::CloseSession(session))?;

@@ -1,5 +1,6 @@
-//! What each service holds after a history: the records of the table and of the user storage, the messages of
-//! the lanes, and the watches, each read from the history's lines. Definitions, and worked runs of them.
+//! What each service holds after a history: the records of the table and of the user storage, the
+//! messages of the lanes, and the watches, each read from the history's lines. Definitions, and
+//! worked runs of them.
 #![tactic(auto)]
 
 mod counts;

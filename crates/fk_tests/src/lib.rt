@@ -1,5 +1,6 @@
-//! Tests of the other crates, by their public calls alone: that what may want memory does succeed with ample
-//! memory, that texts are those written out by hand, and what stands on real readers, writers and clocks.
+//! Tests of the other crates, by their public calls alone: that what may want memory does succeed
+//! with ample memory, that texts are those written out by hand, and what stands on real readers,
+//! writers and clocks.
 #![tactic(auto)]
 
 #[cfg(test)]

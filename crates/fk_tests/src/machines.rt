@@ -34,7 +34,8 @@ fn sent(alloc: Global) -> Result<Sent, Fail>
     })
 }
 
-/// The first operation of function 1, the follower of such a create, at moment 11, where locks pass on after 10.
+/// The first operation of function 1, the follower of such a create, at moment 11, where locks pass
+/// on after 10.
 fn follows(alloc: Global) -> Result<Op, Fail> {
     let mut table = ListTable::new(alloc, 1)?;
     let mut post = Post::new(alloc, 1)?;

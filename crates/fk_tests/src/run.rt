@@ -58,8 +58,8 @@ const ONE_CREATE: &str = "\
 const COUNTS: &str =
     "entries 21\ntransactions 1\nreplies 1\nerrors 0\nnotifications 0\nexpired 0\nlast 1\n";
 
-/// The status of a run over memory in which these writes fail, or 255 where other bytes than `wanted` were
-/// written.
+/// The status of a run over memory in which these writes fail, or 255 where other bytes than
+/// `wanted` were written.
 fn status(alloc: Global, input: &str, failing: &[u64], wanted: &str) -> Result<u8, NoMemory> {
     let mut source = MemSource::new(alloc, input.as_bytes(), &[])?;
     let mut sink = MemSink::new(alloc, 4096, failing)?;
@@ -107,7 +107,8 @@ fn first_entries(alloc: Global, count: u64) -> Result<String, NoMemory> {
     Ok(text)
 }
 
-/// The status of one create whose write number `failing` fails, behind the entries that were written before.
+/// The status of one create whose write number `failing` fails, behind the entries that were
+/// written before.
 fn cut(alloc: Global, failing: u64) -> Result<u8, NoMemory> {
     let wanted = first_entries(alloc, failing.saturating_sub(1))?;
     status(

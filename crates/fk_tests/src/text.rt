@@ -178,7 +178,8 @@ fn prints_deployments(rt: HostRuntime) -> Result<(), Fail> {
     Ok(())
 }
 
-/// Whether these bytes are read, where they may have no schedule, to the deployment that they print.
+/// Whether these bytes are read, where they may have no schedule, to the deployment that they
+/// print.
 fn is_unscheduled(alloc: Global, text: &str) -> Result<bool, Fail> {
     let deployment = read_unscheduled(alloc, text.as_bytes())?;
     Ok(print_script(alloc, &deployment)?.as_slice() == text.as_bytes())

@@ -71,7 +71,8 @@ impl<T: Table> World<T> {
         self.play(&Event::Clock(moment))
     }
 
-    /// Makes the whole of one drain. After `NoMemory` the entries so far stay, and the world is spent.
+    /// Makes the whole of one drain. After `NoMemory` the entries so far stay, and the world is
+    /// spent.
     pub fn drain(&mut self) -> Result<(), NoMemory>
         requires { clock_of self.old.past + (plan_of self.old.deployment).lock + 1 < 2 ^ 63 }
         ensures drained { OnOk result (Drains (plan_of self.old.deployment) self.old.past

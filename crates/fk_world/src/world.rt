@@ -46,7 +46,11 @@ impl<T: Table> Model for World<T> {
 
     ghost Value = { View };
 
-    ghost view = { λ w. record { deployment = w.deployment; past = w.engine.past; spent = w.engine.spent } };
+    ghost view = { λ w. record {
+      deployment = w.deployment;
+      past = w.engine.past;
+      spent = w.engine.spent;
+    } };
 
     ghost invariant = { λ w. IsSound w.deployment (engine_of T.meaning w.engine) };
 }
@@ -75,8 +79,8 @@ impl<T: Table> World<T> {
         })
     }
 
-    /// Makes the operation of an event, and adds and gives its entry. After `NoMemory` the past is as
-    /// before, and the world is spent: it answers `NoMemory` from then on.
+    /// Makes the operation of an event, and adds and gives its entry. After `NoMemory` the past is
+    /// as before, and the world is spent: it answers `NoMemory` from then on.
     pub fn apply_event(&mut self, event: &Event) -> Result<&Entry, NoMemory>
         requires named { names_client (plan_of self.old.deployment) event.now ≡ true }
         requires moment { IsMoment event.now }
@@ -150,7 +154,8 @@ impl<T: Table> World<T> {
         self.engine.ready(event)
     }
 
-    /// The numbers of the functions in flight. Where there is no memory for them the world is spent.
+    /// The numbers of the functions in flight. Where there is no memory for them the world is
+    /// spent.
     pub(crate) fn flight(&mut self) -> Result<Numbers, NoMemory>
         requires { self.old.spent ≡ false }
         ensures numbers { IfOk result (λ ns. ns

@@ -19,8 +19,8 @@ fn words(rt: &HostRuntime) -> io::Result<Vec<String>> {
     Ok(words)
 }
 
-/// The status of the run, whose output is buffered. What is left in the buffer at the end is written then;
-/// a failure of that is a failed write.
+/// The status of the run, whose output is buffered. What is left in the buffer at the end is
+/// written then; a failure of that is a failed write.
 fn status(rt: &HostRuntime, words: &[String]) -> u8 {
     let Ok(mut output) = BufWriter::with_capacity(rt.alloc(), BUFFER, rt.stdout()) else {
         return 71;
